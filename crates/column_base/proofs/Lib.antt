@@ -1,0 +1,3 @@
+pub mod ListsLemmas
+pub mod Utf8Lemmas
+pub mod AnswersLemmas

@@ -1,0 +1,22 @@
+//! What every crate of the library speaks: refusals and their causes, numbers and offsets, data types, and the words
+//! of contracts.
+#![tactic(auto)]
+
+mod datatypes;
+mod errors;
+mod lists;
+mod native;
+mod offset;
+mod splitable;
+mod utf8;
+
+pub use datatypes::{ArrowDataType, IntervalUnit, PhysicalType, PrimitiveType, TimeUnit};
+pub use errors::{Cause, PolarsError};
+pub use lists::{slice_reads, slices_are_one, split_is_whole};
+pub use native::NativeType;
+pub use offset::Offset;
+pub use splitable::Splitable;
+pub use utf8::{is_utf8, text_of, utf8_cut, utf8_is_text};
+
+#[cfg(test)]
+mod tests;
