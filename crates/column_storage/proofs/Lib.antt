@@ -1,0 +1,5 @@
+pub mod OptionalLemmas
+pub mod PartsLemmas
+pub mod PlacesLemmas
+pub mod RangesLemmas
+pub mod ValuesLemmas

@@ -1,0 +1,44 @@
+-- Lists of truth values, and what they say of the values beside them.
+use Rattle.std.specs.Prelude.{ℕ, ◌+◌, Bool, true, not, List, [], ◌∷◌, ◌++◌, replicate, slice_get, count_by, Option, Some, None, ◌==◌, if◌then◌else◌}
+use Rattle.std.specs.Option.{option_to_list}
+
+-- This library's own: a growing list of truth values, and how many more it takes without further memory.
+pub record GrowingBits : Type 0 where
+  pub bits : List Bool
+  pub spare : ℕ
+
+-- Arrow columnar format, "Validity bitmaps": a bit for each of n values, set where the value is valid. Where no
+-- value is null, the bitmap need not be there.
+abbrev pub flags_of : ℕ → Option (List Bool) → List Bool
+flags_of n None = replicate n true
+flags_of n (Some flags) = flags
+
+abbrev pub kept_flags : List Bool → Option (List Bool)
+kept_flags flags = if count_by not flags == 0 then None else Some flags
+
+-- the places of set bits, where the first bit has the given place
+abbrev pub set_places : ℕ → List Bool → List ℕ
+set_places at [] = []
+set_places at (bit ∷ bits) = if bit then at ∷ set_places (at + 1) bits else set_places (at + 1) bits
+
+-- the elements at places, where a place past the end has none
+abbrev pub at_places : {X : Type 0} → List X → List ℕ → List X
+at_places xs [] = []
+at_places xs (i ∷ places) = option_to_list (slice_get xs i) ++ at_places xs places
+
+-- the values whose bit is set
+abbrev pub valid_values : {X : Type 0} → List Bool → List X → List X
+valid_values [] xs = []
+valid_values (bit ∷ bits) [] = []
+valid_values (bit ∷ bits) (x ∷ xs) = if bit then x ∷ valid_values bits xs else valid_values bits xs
+
+-- the bits that are given, if any
+abbrev pub given_bits : Option (List Bool) → List Bool
+given_bits None = []
+given_bits (Some bits) = bits
+
+-- A value whose bit is not set is null. A value without a bit is valid.
+abbrev pub optional_values : {X : Type 0} → List Bool → List X → List (Option X)
+optional_values bits [] = []
+optional_values [] (x ∷ xs) = Some x ∷ optional_values [] xs
+optional_values (bit ∷ bits) (x ∷ xs) = (if bit then Some x else None) ∷ optional_values bits xs

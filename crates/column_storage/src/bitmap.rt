@@ -1,0 +1,180 @@
+//! Truth values that are shared among columns.
+
+ghost use Rattle.std.specs.Prelude.{◌≡◌, ◌+◌, ◌<◌, ◌≤◌, ◌==◌, not, false, length, length as list_length, replicate, take, drop, None, Some, count_by, slice_get};
+ghost use Rattle.column_base.specs.Answers.{Answers};
+ghost use Rattle.column_base.specs.Lists.{sublist};
+ghost use Rattle.column_storage.specs.Iterators.{bits_left};
+
+use crate::bitmap_iter::BitmapIter;
+use crate::buffer::Buffer;
+use crate::mutable_bitmap::MutableBitmap;
+use column_base::PolarsError;
+use std::alloc::Global;
+use std::marker::Model;
+
+/// A list of truth values that cannot be changed, semantically a `Vec<bool>` whose clones and slices share their
+/// memory.
+///
+/// A slice or a share costs the same whatever its length. Arrow columnar format, "Validity bitmaps".
+#[derive(Drop)]
+pub struct Bitmap {
+    bits: Buffer<bool>,
+}
+
+impl Model for Bitmap {
+    ghost use Rattle.std.specs.Prelude.{Bool, List};
+
+    ghost Value = { List Bool };
+
+    ghost view = { λ b. b.bits };
+}
+
+impl Bitmap {
+    /// The list of a slice, in one copy.
+    ///
+    /// `NoMemory` where there is none for the copy.
+    pub fn from_bools(alloc: Global, bits: &[bool]) -> Result<Self, PolarsError>
+        ensures { Answers result None (λ b. b ≡ bits.now) }
+    {
+        let bits = Vec::from_slice(alloc, bits)?;
+        Bitmap::from_vec(alloc, bits)
+    }
+
+    /// The list of a vector, which is not copied.
+    ///
+    /// Takes memory for the count of its owners. `NoMemory` where there is none, and the vector is then dropped.
+    pub fn from_vec(alloc: Global, bits: Vec<bool>) -> Result<Self, PolarsError>
+        ensures { Answers result None (λ b. b ≡ bits.items) }
+    {
+        let bits = Buffer::from_vec(alloc, bits)?;
+        Ok(Bitmap { bits })
+    }
+
+    /// `length` bits that are not set.
+    ///
+    /// `NoMemory` where there is none for them.
+    pub fn new_zeroed(alloc: Global, length: usize) -> Result<Self, PolarsError>
+        ensures { Answers result None (λ b. b ≡ replicate length false) }
+    {
+        Bitmap::new_with_value(alloc, false, length)
+    }
+
+    /// `length` bits of one value.
+    ///
+    /// `NoMemory` where there is none for them.
+    pub fn new_with_value(alloc: Global, value: bool, length: usize) -> Result<Self, PolarsError>
+        ensures { Answers result None (λ b. b ≡ replicate length value) }
+    {
+        let bits = vec![in alloc; value; length]?;
+        Bitmap::from_vec(alloc, bits)
+    }
+
+    /// The number of bits.
+    pub fn len(&self) -> usize
+        ensures { result ≡ length self.now }
+    {
+        self.bits.len()
+    }
+
+    /// Whether there is no bit.
+    pub fn is_empty(&self) -> bool
+        ensures { result ≡ (length self.now == 0) }
+    {
+        self.bits.is_empty()
+    }
+
+    /// The bit at place `i`.
+    pub fn get_bit(&self, i: usize) -> bool
+        requires { i < length self.now }
+        ensures { slice_get self.now i ≡ Some result }
+    {
+        self.bits.as_slice()[i]
+    }
+
+    /// The number of bits that are set, in linear time.
+    pub fn set_bits(&self) -> usize
+        ensures { result ≡ count_by (λ b. b) self.now }
+    {
+        self.bits.as_slice().iter().filter(|bit| **bit).count()
+    }
+
+    /// The number of bits that are not set, in linear time.
+    pub fn unset_bits(&self) -> usize
+        ensures { result ≡ count_by not self.now }
+    {
+        self.bits.as_slice().iter().filter(|bit| !**bit).count()
+    }
+
+    /// The bits one by one, from both ends.
+    pub fn iter(&self) -> BitmapIter<'_>
+        ensures { bits_left result ≡ self.now }
+    {
+        BitmapIter::new(self.bits.as_slice())
+    }
+
+    /// Keeps the `length` bits from place `offset` on. Takes no memory.
+    pub fn slice(&mut self, offset: usize, length: usize)
+        requires { offset + length ≤ list_length self.old }
+        ensures { self.new ≡ sublist self.old offset length }
+    {
+        self.bits.slice(offset, length);
+    }
+
+    /// The `length` bits from place `offset` on. Takes no memory.
+    pub fn sliced(self, offset: usize, length: usize) -> Self
+        requires { offset + length ≤ list_length self }
+        ensures { result ≡ sublist self offset length }
+    {
+        let mut part = self;
+        part.slice(offset, length);
+        part
+    }
+
+    /// The same as [`Bitmap::slice`].
+    pub fn slice_unchecked(&mut self, offset: usize, length: usize)
+        requires { offset + length ≤ list_length self.old }
+        ensures { self.new ≡ sublist self.old offset length }
+    {
+        self.slice(offset, length);
+    }
+
+    /// The same as [`Bitmap::sliced`].
+    pub fn sliced_unchecked(self, offset: usize, length: usize) -> Self
+        requires { offset + length ≤ list_length self }
+        ensures { result ≡ sublist self offset length }
+    {
+        self.sliced(offset, length)
+    }
+
+    /// The first `offset` bits, and the rest. Both share the memory of this list.
+    ///
+    /// Copies no bit and takes no memory. `NoMemory` where the count of owners is full.
+    pub fn split_at(&self, offset: usize) -> Result<(Self, Self), PolarsError>
+        requires { offset ≤ length self.now }
+        ensures { Answers result None (λ parts. (parts.0 ≡ take offset self.now) × (parts.1 ≡ drop offset self.now)) }
+    {
+        let (first, rest) = self.bits.split_at(offset)?;
+        Ok((Bitmap { bits: first }, Bitmap { bits: rest }))
+    }
+
+    /// The list as a builder, to be changed.
+    ///
+    /// The memory is kept where no other bitmap shares it, and is copied otherwise. `NoMemory` where there is none
+    /// for the copy.
+    pub fn make_mut(self, alloc: Global) -> Result<MutableBitmap, PolarsError>
+        ensures { Answers result None (λ m. m.bits ≡ self) }
+    {
+        let bits = self.bits.make_mut(alloc)?;
+        Ok(MutableBitmap::from_vec(bits))
+    }
+
+    /// The same list, which shares the memory of this one.
+    ///
+    /// Copies no bit and takes no memory. `NoMemory` where the count of owners is full.
+    pub fn try_clone(&self) -> Result<Self, PolarsError>
+        ensures { Answers result None (λ b. b ≡ self.now) }
+    {
+        let bits = self.bits.try_clone()?;
+        Ok(Bitmap { bits })
+    }
+}

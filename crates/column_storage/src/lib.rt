@@ -1,0 +1,28 @@
+//! Shared parts of columns, seen as lists: buffers of values, validity bitmaps and the buffers of views.
+#![tactic(auto)]
+
+mod accessor;
+mod bitmap;
+mod bitmap_iter;
+mod buffer;
+mod data_buffers;
+mod listed;
+mod mutable_bitmap;
+mod non_null_values_iter;
+#[cfg(test)]
+mod tests;
+mod true_idx_iter;
+mod values_iter;
+mod zip_validity;
+
+pub use accessor::{ArrayAccessor, Slots};
+pub use bitmap::Bitmap;
+pub use bitmap_iter::BitmapIter;
+pub use buffer::Buffer;
+pub use data_buffers::{DataBuffers, MAX_BUFFERS};
+pub use listed::{Flags, FlagsBack, Listed, ListedBack};
+pub use mutable_bitmap::MutableBitmap;
+pub use non_null_values_iter::NonNullValuesIter;
+pub use true_idx_iter::TrueIdxIter;
+pub use values_iter::ArrayValuesIter;
+pub use zip_validity::ZipValidity;

@@ -1,0 +1,209 @@
+//! Truth values that grow.
+
+ghost use Rattle.std.specs.Prelude.{◌≡◌, ◌+◌, ◌<◌, ◌≤◌, ◌==◌, ◌++◌, ◌∷◌, [], not, true, length, replicate, None, Some, IsOk, OnErr, OnOk, MatchOption, count_by, slice_get, slice_set};
+ghost use Rattle.column_base.specs.Answers.{Answers};
+ghost use Rattle.column_storage.specs.Bits.{kept_flags};
+ghost use Rattle.column_storage.specs.Iterators.{bits_left};
+
+use crate::bitmap::Bitmap;
+use crate::bitmap_iter::BitmapIter;
+use column_base::PolarsError;
+use std::alloc::Global;
+use std::marker::Model;
+
+/// A list of truth values that grows, semantically a `Vec<bool>`.
+///
+/// It keeps its allocator. A refused call leaves the list as it was.
+#[derive(Drop)]
+pub struct MutableBitmap {
+    values: Vec<bool>,
+}
+
+impl Model for MutableBitmap {
+    ghost use Rattle.std.specs.Prelude.{◌-◌};
+    ghost use Rattle.std.specs.Vec.{vec_len, vec_capacity};
+    ghost use Rattle.column_storage.specs.Bits.{GrowingBits};
+
+    ghost Value = { GrowingBits };
+
+    ghost view = { λ m. record { bits = m.values.items; spare = vec_capacity m.values - vec_len m.values } };
+}
+
+impl MutableBitmap {
+    /// An empty list, which keeps the allocator. Takes no memory.
+    pub fn new(alloc: Global) -> Self
+        ensures { result.bits ≡ [] }
+    {
+        MutableBitmap {
+            values: Vec::new(alloc),
+        }
+    }
+
+    /// An empty list with room for `capacity` bits.
+    ///
+    /// `NoMemory` where there is none for them.
+    pub fn with_capacity(alloc: Global, capacity: usize) -> Result<Self, PolarsError>
+        ensures { Answers result None (λ m. (m.bits ≡ []) × (capacity ≤ m.spare)) }
+    {
+        let values = Vec::with_capacity(alloc, capacity)?;
+        Ok(MutableBitmap { values })
+    }
+
+    /// `length` bits that are set.
+    ///
+    /// `NoMemory` where there is none for them.
+    pub fn from_len_set(alloc: Global, length: usize) -> Result<Self, PolarsError>
+        ensures { Answers result None (λ m. m.bits ≡ replicate length true) }
+    {
+        let values = vec![in alloc; true; length]?;
+        Ok(MutableBitmap { values })
+    }
+
+    // The list of a vector, which is not copied.
+    pub(crate) fn from_vec(values: Vec<bool>) -> Self
+        ensures { result.bits ≡ values.items }
+    {
+        MutableBitmap { values }
+    }
+
+    /// Makes room for `additional` more bits.
+    ///
+    /// `NoMemory` where there is none for them, and never where the room is there.
+    pub fn reserve(&mut self, additional: usize) -> Result<(), PolarsError>
+        ensures answer { Answers result None (λ _. (self.new.bits ≡ self.old.bits) × (additional ≤ self.new.spare)) }
+        ensures spare_serves { additional ≤ self.old.spare → IsOk result }
+        ensures unchanged { OnErr result (self.new ≡ self.old) }
+    {
+        self.values.reserve(additional)?;
+        Ok(())
+    }
+
+    /// Adds a bit at the end.
+    ///
+    /// `NoMemory` where there is none for it, and never where there is room.
+    pub fn push(&mut self, value: bool) -> Result<(), PolarsError>
+        ensures answer { Answers result None (λ _. self.new.bits ≡ self.old.bits ++ value ∷ []) }
+        ensures spare_serves { 0 < self.old.spare → IsOk result }
+        ensures spare_left { OnOk result (self.old.spare ≤ self.new.spare + 1) }
+        ensures unchanged { OnErr result (self.new.bits ≡ self.old.bits) }
+    {
+        self.values.push(value)?;
+        Ok(())
+    }
+
+    /// Takes the last bit, `None` where there is none.
+    pub fn pop(&mut self) -> Option<bool>
+        ensures bits { MatchOption result ((self.old.bits ≡ []) × (self.new.bits ≡ [])) (λ bit. self.old.bits ≡ self.new.bits ++ bit ∷ []) }
+        ensures spare { self.old.spare ≤ self.new.spare }
+    {
+        self.values.pop()
+    }
+
+    /// Adds `additional` bits of one value at the end.
+    ///
+    /// `NoMemory` where there is none for them, and never where there is room.
+    pub fn extend_constant(&mut self, additional: usize, value: bool) -> Result<(), PolarsError>
+        ensures answer { Answers result None (λ _. self.new.bits ≡ self.old.bits ++ replicate additional value) }
+        ensures spare_serves { additional ≤ self.old.spare → IsOk result }
+        ensures spare_left { OnOk result (self.old.spare ≤ self.new.spare + additional) }
+        ensures unchanged { OnErr result (self.new.bits ≡ self.old.bits) }
+    {
+        self.values.reserve(additional)?;
+        let len = self.values.len() + additional;
+        self.values.resize(len, value)?;
+        Ok(())
+    }
+
+    /// Gives the bit at place `i` another value.
+    pub fn set(&mut self, i: usize, value: bool)
+        requires { i < length self.old.bits }
+        ensures { self.new ≡ record self.old { bits = slice_set self.old.bits i value } }
+    {
+        self.values[i] = value;
+    }
+
+    /// The bit at place `i`.
+    pub fn get(&self, i: usize) -> bool
+        requires { i < length self.now.bits }
+        ensures { slice_get self.now.bits i ≡ Some result }
+    {
+        self.values[i]
+    }
+
+    /// The number of bits.
+    pub fn len(&self) -> usize
+        ensures { result ≡ length self.now.bits }
+    {
+        self.values.len()
+    }
+
+    /// Whether there is no bit.
+    pub fn is_empty(&self) -> bool
+        ensures { result ≡ (length self.now.bits == 0) }
+    {
+        self.values.is_empty()
+    }
+
+    /// The number of bits that are set, in linear time.
+    pub fn set_bits(&self) -> usize
+        ensures { result ≡ count_by (λ b. b) self.now.bits }
+    {
+        self.values.iter().filter(|bit| **bit).count()
+    }
+
+    /// The number of bits that are not set, in linear time.
+    pub fn unset_bits(&self) -> usize
+        ensures { result ≡ count_by not self.now.bits }
+    {
+        self.values.iter().filter(|bit| !**bit).count()
+    }
+
+    /// The bits one by one, from both ends.
+    pub fn iter(&self) -> BitmapIter<'_>
+        ensures { bits_left result ≡ self.now.bits }
+    {
+        BitmapIter::new(self.values.as_slice())
+    }
+
+    /// Gives back room that is not used.
+    pub fn shrink_to_fit(&mut self)
+        ensures bits { self.new.bits ≡ self.old.bits }
+        ensures spare { self.new.spare ≤ self.old.spare }
+    {
+        self.values.shrink_to_fit();
+    }
+
+    /// The list as a bitmap, whose bits are not copied.
+    ///
+    /// Takes memory for the count of its owners. `NoMemory` where there is none.
+    pub fn freeze(self) -> Result<Bitmap, PolarsError>
+        ensures { Answers result None (λ b. b ≡ self.bits) }
+    {
+        let alloc = *self.values.allocator();
+        Bitmap::from_vec(alloc, self.values)
+    }
+
+    /// The list as a validity, `None` exactly where no bit is unset.
+    ///
+    /// Takes memory for the count of its owners. `NoMemory` where there is none. Arrow columnar format, "Validity
+    /// bitmaps".
+    pub fn into_opt_validity(self) -> Result<Option<Bitmap>, PolarsError>
+        ensures { Answers result None (λ validity. validity ≡ kept_flags self.bits) }
+    {
+        if self.unset_bits() == 0 {
+            return Ok(None);
+        }
+        let validity = self.freeze()?;
+        Ok(Some(validity))
+    }
+
+    /// A copy of the list.
+    ///
+    /// `NoMemory` where there is none for it.
+    pub fn try_clone(&self) -> Result<Self, PolarsError>
+        ensures { Answers result None (λ m. m.bits ≡ self.now.bits) }
+    {
+        let values = Vec::from_slice(*self.values.allocator(), &self.values)?;
+        Ok(MutableBitmap { values })
+    }
+}
