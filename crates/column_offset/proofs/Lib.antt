@@ -1,0 +1,6 @@
+pub mod OffsetsLemmas
+pub mod TextLemmas
+pub mod GrowthLemmas
+pub mod SlotsLemmas
+pub mod EqualLemmas
+pub mod LeavesLemmas

@@ -1,0 +1,132 @@
+-- Slots of text: one after another they are the covered bytes.
+use Rattle.std.proofs.Common.{◌≡◌, ℕ, zero, suc, ◌+◌, ◌-◌, ◌<◌, ◌≤◌, ℤ, pos, negsuc, Bool, true, false, List, [], ◌∷◌, ◌++◌, length, take, drop, refl, sym, ◌∙◌, ap, subst, arith, append_assoc}
+use Rattle.std.specs.Prelude.{◌≤ℤ◌, ◌&&◌, ◌↔◌, not, nat_lt, slice_range, Option, Some, None, int_lt, if◌then◌else◌}
+use Rattle.std.proofs.lemmas.Int.{ints}
+use Rattle.std.proofs.lemmas.Bool.{and_parts}
+use Rattle.std.proofs.lemmas.Bool.Decides.{nat_tests}
+use Rattle.std.proofs.lemmas.List.{length-drop}
+use Rattle.column_base.specs.declared.errors.Cause.{Cause}
+use Rattle.column_base.specs.declared.errors.Cause.TheVariants.{OffsetsExceedValues, InvalidUtf8, CharBoundary}
+use Rattle.column_base.specs.Answers.{◌or_else◌, cause_if}
+use Rattle.column_base.specs.Utf8.{is_well_formed_utf8, IsWellFormedUtf8}
+use Rattle.column_base.proofs.ListsLemmas.{take-take, drop-drop, drop-take}
+use Rattle.column_base.proofs.Utf8Lemmas.{well_formed-append}
+use Rattle.column_offset.specs.Offsets.{nat_of, offset_at, last_of, AreSoundOffsets, bounds_fault}
+use Rattle.column_offset.specs.Text.{pieces, covered, are_well_formed_utf8, text_fault}
+use Rattle.column_offset.proofs.OffsetsLemmas.{nat_of_order, places_in_order, from_zero}
+
+-- ---- a loop over slots
+
+pub pieces-step : (offsets : List ℤ) (values : List ℕ) (i : ℕ) → i + 1 < length offsets
+    → pieces (drop i offsets) values ≡ slice_range values (nat_of (offset_at offsets i)) (nat_of (offset_at offsets (i + 1))) ∷ pieces (drop (i + 1) offsets) values
+pieces-step [] values i within = absurd (omega arith)
+pieces-step (a ∷ []) values i within = absurd (omega arith)
+pieces-step (a ∷ b ∷ offsets) values zero within = refl
+pieces-step (a ∷ b ∷ offsets) values (suc i) within =
+    let e : suc i + 1 ≡ suc (i + 1) = omega arith in
+    rw e (pieces-step (b ∷ offsets) values i (omega arith))
+
+pub pieces-end : (offsets : List ℤ) (values : List ℕ) (i : ℕ) → length offsets ≤ i + 1 → pieces (drop i offsets) values ≡ []
+pieces-end [] values zero within = refl
+pieces-end [] values (suc i) within = refl
+pieces-end (a ∷ []) values zero within = refl
+pieces-end (a ∷ []) values (suc zero) within = refl
+pieces-end (a ∷ []) values (suc (suc i)) within = refl
+pieces-end (a ∷ b ∷ offsets) values zero within = absurd (omega arith)
+pieces-end (a ∷ b ∷ offsets) values (suc i) within = pieces-end (b ∷ offsets) values i (omega arith)
+
+-- ---- the whole from its parts
+
+take-join : (n m : ℕ) (xs : List ℕ) → take n xs ++ take m (drop n xs) ≡ take (n + m) xs
+take-join zero m xs = let e : 0 + m ≡ m = omega arith in rw e refl
+take-join (suc n) zero [] = let e : suc n + 0 ≡ suc n = omega arith in rw e refl
+take-join (suc n) (suc m) [] = let e : suc n + suc m ≡ suc (n + suc m) = omega arith in rw e refl
+take-join (suc n) m (x ∷ xs) = let e : suc n + m ≡ suc (n + m) = omega arith in rw e (ap (λ ys. x ∷ ys) (take-join n m xs))
+
+pub slice_range-join : (values : List ℕ) (a b c : ℕ) → a ≤ b → b ≤ c → slice_range values a b ++ slice_range values b c ≡ slice_range values a c
+slice_range-join values a b c ab bc =
+    let n = b - a in
+    let m = c - b in
+    let there : a + n ≡ b = omega arith in
+    let all : n + m ≡ c - a = omega arith in
+    let back : drop b values ≡ drop n (drop a values) = sym (drop-drop n a values ∙ ap (λ k. drop k values) there) in
+    rw (back, ← all) (take-join n m (drop a values))
+
+sound_tail : (a b : ℤ) (offsets : List ℤ) → AreSoundOffsets (a ∷ b ∷ offsets) → AreSoundOffsets (b ∷ offsets)
+sound_tail a b offsets sound =
+    let starts = sound.starts in
+    let step = sound.never_falls 0 (omega arith) in
+    record {
+      not_empty = omega arith;
+      starts = omega (arith, ints);
+      never_falls = λ i below. let e : suc i + 1 ≡ suc (i + 1) = omega arith in let step = sound.never_falls (suc i) (omega arith) in rw e at step;
+    }
+
+last_of-cons : (a b : ℤ) (offsets : List ℤ) → last_of (a ∷ b ∷ offsets) ≡ last_of (b ∷ offsets)
+last_of-cons a b offsets =
+    let e : length (a ∷ b ∷ offsets) - 1 ≡ suc (length (b ∷ offsets) - 1) = omega arith in
+    rw e refl
+
+pub covered-cons : (a b : ℤ) (offsets : List ℤ) (values : List ℕ) → AreSoundOffsets (a ∷ b ∷ offsets)
+    → covered (a ∷ b ∷ offsets) values ≡ slice_range values (nat_of a) (nat_of b) ++ covered (b ∷ offsets) values
+covered-cons a b offsets values sound =
+    let step : a ≤ℤ b = sound.never_falls 0 (omega arith) in
+    let rest : nat_of b ≤ nat_of (last_of (b ∷ offsets)) = places_in_order (b ∷ offsets) 0 (length (b ∷ offsets) - 1) (sound_tail a b offsets sound) (omega arith) (omega arith) in
+    rw (last_of-cons a b offsets) (sym (slice_range-join values (nat_of a) (nat_of b) (nat_of (last_of (b ∷ offsets))) (nat_of_order a b step) rest))
+
+-- texts one after another are a text
+pub covered_well_formed : (offsets : List ℤ) (values : List ℕ) → AreSoundOffsets offsets → are_well_formed_utf8 (pieces offsets values) ≡ true → is_well_formed_utf8 (covered offsets values) ≡ true
+covered_well_formed [] values sound all = absurd (omega (arith, sound.not_empty))
+covered_well_formed (a ∷ []) values sound all = let e : nat_of a - nat_of a ≡ 0 = omega arith in rw e refl
+covered_well_formed (a ∷ b ∷ offsets) values sound all =
+    let parts = and_parts (is_well_formed_utf8 (slice_range values (nat_of a) (nat_of b))) (are_well_formed_utf8 (pieces (b ∷ offsets) values)) all in
+    let rest = covered_well_formed (b ∷ offsets) values (sound_tail a b offsets sound) parts.1 in
+    rw (covered-cons a b offsets values sound) (well_formed-append (slice_range values (nat_of a) (nat_of b)) (covered (b ∷ offsets) values) parts.0 rest)
+
+-- ---- the first fault
+
+last_within : (last : ℤ) (count : ℕ) → pos 0 ≤ℤ last → cause_if (int_lt (pos count) last) OffsetsExceedValues ≡ None → nat_of last ≤ count
+last_within (pos n) count starts fine = grind (arith, nat_tests)
+last_within (negsuc n) count starts fine = absurd (omega (arith, ints))
+
+last_is_there : {offsets : List ℤ} → AreSoundOffsets offsets → length offsets - 1 < length offsets
+last_is_there {offsets} sound = let some = sound.not_empty in omega arith
+
+pub within_values : (offsets : List ℤ) (count : ℕ) → AreSoundOffsets offsets → bounds_fault offsets count ≡ None → nat_of (last_of offsets) ≤ count
+within_values offsets count sound fine = last_within (last_of offsets) count (from_zero sound (length offsets - 1) (last_is_there sound)) fine
+
+pub text_sound : (offsets : List ℤ) (values : List ℕ) → AreSoundOffsets offsets → bounds_fault offsets (length values) ≡ None → are_well_formed_utf8 (pieces offsets values) ≡ true → text_fault offsets values ≡ None
+unfolding text_fault
+text_sound offsets values sound within all = rw (within, covered_well_formed offsets values sound all, all) refl
+
+pub text_bounds : (offsets : List ℤ) (values : List ℕ) (cause : Cause) → bounds_fault offsets (length values) ≡ Some cause → text_fault offsets values ≡ Some cause
+unfolding text_fault
+text_bounds offsets values cause fault = rw fault refl
+
+pub text_invalid : (offsets : List ℤ) (values : List ℕ) → bounds_fault offsets (length values) ≡ None → is_well_formed_utf8 (covered offsets values) ≡ false → text_fault offsets values ≡ Some InvalidUtf8
+unfolding text_fault
+text_invalid offsets values within bad = rw (within, bad) refl
+
+pub text_boundary : (offsets : List ℤ) (values : List ℕ) → bounds_fault offsets (length values) ≡ None → is_well_formed_utf8 (covered offsets values) ≡ true → are_well_formed_utf8 (pieces offsets values) ≡ false → text_fault offsets values ≡ Some CharBoundary
+unfolding text_fault
+text_boundary offsets values within whole bad = rw (within, whole, bad) refl
+
+-- ---- each slot by itself
+
+last_test : (before : Option Cause) (test : Bool) (cause : Cause) → (before or_else cause_if (not test) cause) ≡ None → test ≡ true
+last_test None true cause none = refl
+last_test None false cause none = absurd (cc)
+last_test (Some other) test cause none = absurd (cc)
+
+bounded : (last : ℤ) (count : ℕ) → nat_of last ≤ count → cause_if (int_lt (pos count) last) OffsetsExceedValues ≡ None
+bounded (pos n) count within = let fits : nat_lt count n ≡ false = grind (arith, nat_tests) in rw fits refl
+bounded (negsuc n) count within = refl
+
+pub slots_decide : (offsets : List ℤ) (values : List ℕ) → AreSoundOffsets offsets → nat_of (last_of offsets) ≤ length values → (text_fault offsets values ≡ None) ↔ (are_well_formed_utf8 (pieces offsets values) ≡ true)
+unfolding text_fault
+slots_decide offsets values sound within = (
+  λ (none : text_fault offsets values ≡ None). last_test _ (are_well_formed_utf8 (pieces offsets values)) CharBoundary none,
+  λ (all : are_well_formed_utf8 (pieces offsets values) ≡ true). text_sound offsets values sound (bounded (last_of offsets) (length values) within) all,
+)
+
+pub ruleset texts = (within_values, text_sound, text_bounds, text_invalid, text_boundary, pieces-step, pieces-end)

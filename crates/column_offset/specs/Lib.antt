@@ -1,0 +1,5 @@
+pub mod Offsets
+pub mod Text
+pub mod Growth
+pub mod Keys
+pub mod Leaves

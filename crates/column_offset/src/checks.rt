@@ -1,0 +1,88 @@
+//! Checks of raw parts.
+
+ghost use Rattle.std.specs.Prelude.{◌≡◌, ℕ, ◌+◌, ◌<◌, ◌≤◌, pos, ◌≤ℤ◌, length, map, ⊤};
+ghost use Rattle.column_base.specs.Answers.{Gives};
+ghost use Rattle.column_offset.specs.Offsets.{nat_of, offset_at, last_of, offsets_fault, bounds_fault, AreSoundOffsets};
+
+use column_base::{Cause, Offset, PolarsError};
+
+/// Whether numbers are sound offsets: not empty, from 0 or more, never falling.
+///
+/// One pass, with no memory. `OffsetsEmpty`, `OffsetsNegative` for the first number, then `OffsetsNotMonotone`. Arrow
+/// columnar format, "Variable-size Binary Layout".
+pub fn try_check_offsets<O: Offset>(offsets: &[O]) -> Result<(), PolarsError>
+    ensures { Gives result (offsets_fault (map O.int offsets.now)) (λ _. ⊤) }
+{
+    let Some(first) = offsets.first() else {
+        return Err(Cause::OffsetsEmpty.into());
+    };
+    if *first < O::zero() {
+        return Err(Cause::OffsetsNegative.into());
+    }
+    let mut last = *first;
+    let mut any_falls = false;
+    for offset in offsets {
+        any_falls |= *offset < last;
+        last = *offset;
+    }
+    if any_falls {
+        return Err(Cause::OffsetsNotMonotone.into());
+    }
+    Ok(())
+}
+
+/// Whether sound offsets lie within `values_len` values. Takes no memory.
+///
+/// `OffsetsExceedValues` where the last offset is greater.
+pub fn try_check_offsets_bounds<O: Offset>(
+    offsets: &[O],
+    values_len: usize,
+) -> Result<(), PolarsError>
+    requires { AreSoundOffsets (map O.int offsets.now) }
+    ensures { Gives result (bounds_fault (map O.int offsets.now) values_len) (λ _. ⊤) }
+{
+    if place(offsets, offsets.len() - 1) > values_len {
+        return Err(Cause::OffsetsExceedValues.into());
+    }
+    Ok(())
+}
+
+/// Offset `index` of sound ones.
+pub(crate) fn offset_of<O: Offset>(offsets: &[O], index: usize) -> &O
+    requires sound { AreSoundOffsets (map O.int offsets.now) }
+    requires within { index < length offsets.now }
+    ensures same { O.int result.now ≡ offset_at (map O.int offsets.now) index }
+    ensures starts { pos 0 ≤ℤ O.int result.now }
+{
+    &offsets[index]
+}
+
+/// Offset `index` of sound ones, as a place.
+pub(crate) fn place<O: Offset>(offsets: &[O], index: usize) -> usize
+    requires sound { AreSoundOffsets (map O.int offsets.now) }
+    requires within { index < length offsets.now }
+    ensures same { result ≡ nat_of (offset_at (map O.int offsets.now) index) }
+    ensures limit { result ≤ O.GREATEST }
+{
+    offset_of(offsets, index).to_usize()
+}
+
+/// The last of sound offsets, as a place.
+pub(crate) fn last_place<O: Offset>(offsets: &[O]) -> usize
+    requires { AreSoundOffsets (map O.int offsets.now) }
+    ensures same { pos result ≡ last_of (map O.int offsets.now) }
+    ensures limit { result ≤ O.GREATEST }
+{
+    offset_of(offsets, offsets.len() - 1).to_usize()
+}
+
+/// The number of bytes from one of sound offsets up to a later one.
+pub(crate) fn distance<O: Offset>(offsets: &[O], from: usize, to: usize) -> usize
+    requires sound { AreSoundOffsets (map O.int offsets.now) }
+    requires order { from ≤ to }
+    requires within { to < length offsets.now }
+    ensures same { result + nat_of (offset_at (map O.int offsets.now) from) ≡ nat_of (offset_at (map O.int offsets.now) to) }
+    ensures limit { result ≤ O.GREATEST }
+{
+    place(offsets, to) - place(offsets, from)
+}

@@ -1,0 +1,91 @@
+//! Offsets of 32 bits as offsets of 64, and back.
+
+ghost use Rattle.std.specs.Prelude.{◌≡◌, ℤ, pos, ◌≤ℤ◌, List, map, None};
+ghost use Rattle.column_base.specs.Answers.{Answers};
+ghost use Rattle.column_offset.specs.Offsets.{AreSoundOffsets, last_of};
+ghost use Rattle.column_offset.specs.Growth.{limit_fault};
+
+use crate::buffer::OffsetsBuffer;
+use crate::checks::{last_place, place};
+use crate::offsets::Offsets;
+use column_base::{Cause, Offset, PolarsError};
+use column_storage::Buffer;
+use std::alloc::Global;
+
+/// The numbers in 64 bits.
+fn widened(alloc: Global, offsets: &[i32]) -> Result<Vec<i64>, PolarsError>
+    ensures { Answers result None (λ v. v.items ≡ offsets.now) }
+{
+    let mut wide = Vec::with_capacity(alloc, offsets.len())?;
+    for offset in offsets {
+        wide.push(i64::from(*offset))?;
+    }
+    Ok(wide)
+}
+
+/// Sound offsets in another type. `Overflow` where the last one passes it.
+fn narrowed<A: Offset, B: Offset>(alloc: Global, offsets: &[A]) -> Result<Vec<B>, PolarsError>
+    requires { AreSoundOffsets (map A.int offsets.now) }
+    ensures { Answers result (limit_fault B.GREATEST (last_of (map A.int offsets.now))) (λ v. map B.int v.items ≡ map A.int offsets.now) }
+{
+    if last_place(offsets) > B::GREATEST {
+        return Err(Cause::Overflow.into());
+    }
+    let mut narrow = Vec::with_capacity(alloc, offsets.len())?;
+    for i in 0..offsets.len() {
+        narrow.push(B::from_as_usize(place(offsets, i)))?;
+    }
+    Ok(narrow)
+}
+
+impl Offsets<i64> {
+    /// The same offsets in 64 bits.
+    ///
+    /// `NoMemory` where there is none for them.
+    pub fn widen(alloc: Global, offsets: Offsets<i32>) -> Result<Self, PolarsError>
+        ensures { Answers result None (λ o. o.offsets ≡ offsets.offsets) }
+    {
+        Ok(Offsets::new_unchecked(widened(alloc, offsets.as_slice())?))
+    }
+}
+
+impl Offsets<i32> {
+    /// The same offsets in 32 bits.
+    ///
+    /// `Overflow` where the last one is above 2,147,483,647, then `NoMemory` where there is none for them.
+    pub fn narrow(alloc: Global, offsets: Offsets<i64>) -> Result<Self, PolarsError>
+        ensures { Answers result (limit_fault 2147483647 (last_of offsets.offsets)) (λ o. o.offsets ≡ offsets.offsets) }
+    {
+        Ok(Offsets::new_unchecked(narrowed(alloc, offsets.as_slice())?))
+    }
+}
+
+impl OffsetsBuffer<i64> {
+    /// The same offsets in 64 bits.
+    ///
+    /// `NoMemory` where there is none for them.
+    pub fn widen(alloc: Global, offsets: &OffsetsBuffer<i32>) -> Result<Self, PolarsError>
+        ensures { Answers result None (λ b. b ≡ offsets.now) }
+    {
+        let wide = widened(alloc, offsets.as_slice())?;
+        Ok(OffsetsBuffer::new_unchecked(Buffer::from_vec(alloc, wide)?))
+    }
+}
+
+impl OffsetsBuffer<i32> {
+    /// The same offsets in 32 bits.
+    ///
+    /// `Overflow` where the last one is above 2,147,483,647, then `NoMemory` where there is none for them.
+    pub fn narrow(alloc: Global, offsets: &OffsetsBuffer<i64>) -> Result<Self, PolarsError>
+        ensures { Answers result (limit_fault 2147483647 (last_of offsets.now)) (λ b. b ≡ offsets.now) }
+    {
+        let narrow = narrowed(alloc, offsets.as_slice())?;
+        Ok(OffsetsBuffer::new_unchecked(Buffer::from_vec(alloc, narrow)?))
+    }
+}
+
+/// Law of widening: offsets that fit 32 bits are not refused by the way back, which keeps the numbers, as the way there
+/// does.
+pub fn widened_is_narrow()
+    ensures { (offsets : List ℤ) → last_of offsets ≤ℤ pos 2147483647 → limit_fault 2147483647 (last_of offsets) ≡ None }
+{}

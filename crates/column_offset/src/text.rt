@@ -1,0 +1,75 @@
+//! The check of text that is cut into slots.
+
+ghost use Rattle.std.specs.Prelude.{◌≡◌, ◌↔◌, ℕ, ℤ, ◌≤◌, ◌<◌, true, List, None, length, map, slice_range, ⊤};
+ghost use Rattle.column_base.specs.Answers.{Gives};
+ghost use Rattle.column_offset.specs.Offsets.{nat_of, offset_at, last_of, AreSoundOffsets};
+ghost use Rattle.column_offset.specs.Text.{pieces, covered, are_well_formed_utf8, text_fault};
+
+use crate::checks::{place, try_check_offsets_bounds};
+use column_base::{Cause, Offset, PolarsError, is_utf8};
+
+/// Whether each slot of sound offsets is UTF-8 by itself.
+///
+/// Bytes before the first offset and after the last are not looked at. One pass, with no memory, and one more where a
+/// slot is refused. `OffsetsExceedValues` where the last offset is greater than the number of value bytes,
+/// `InvalidUtf8` where the bytes from the first offset up to the last are not UTF-8, `CharBoundary` where they are and
+/// some slot is not. Unicode, table 3-7.
+#[tactic(auto, using(crate::proofs::TextLemmas::texts))]
+pub fn try_check_utf8<O: Offset>(offsets: &[O], values: &[u8]) -> Result<(), PolarsError>
+    requires { AreSoundOffsets (map O.int offsets.now) }
+    ensures { Gives result (text_fault (map O.int offsets.now) values.now) (λ _. ⊤) }
+{
+    try_check_offsets_bounds(offsets, values.len())?;
+    if slots_are_utf8(offsets, values) {
+        return Ok(());
+    }
+    if is_utf8(covered_bytes(offsets, values)) {
+        Err(Cause::CharBoundary.into())
+    } else {
+        Err(Cause::InvalidUtf8.into())
+    }
+}
+
+/// Law of texts in slots: of sound offsets within the value bytes, [`try_check_utf8`] finds no fault exactly where each
+/// slot by itself is UTF-8, whatever stands before the first offset and after the last.
+pub fn slots_decide()
+    ensures { (offsets : List ℤ) (values : List ℕ) → AreSoundOffsets offsets → nat_of (last_of offsets) ≤ length values
+        → (text_fault offsets values ≡ None) ↔ (are_well_formed_utf8 (pieces offsets values) ≡ true) }
+{}
+
+/// Whether each slot is UTF-8. The offsets are sound, and within the values.
+#[tactic(auto, using(crate::proofs::TextLemmas::texts, crate::proofs::OffsetsLemmas::sound_offsets))]
+fn slots_are_utf8<O: Offset>(offsets: &[O], values: &[u8]) -> bool
+    requires sound { AreSoundOffsets (map O.int offsets.now) }
+    requires within { nat_of (last_of (map O.int offsets.now)) ≤ length values.now }
+    ensures { result ≡ are_well_formed_utf8 (pieces (map O.int offsets.now) values.now) }
+{
+    for i in 0..offsets.len() - 1 {
+        if !is_utf8(bytes_between(offsets, values, i, i + 1)) {
+            return false;
+        }
+    }
+    true
+}
+
+/// The bytes from the first offset up to the last. The offsets are sound, and within the values.
+fn covered_bytes<'a, O: Offset>(offsets: &[O], values: &'a [u8]) -> &'a [u8]
+    requires sound { AreSoundOffsets (map O.int offsets.now) }
+    requires bounds { nat_of (last_of (map O.int offsets.now)) ≤ length values.now }
+    ensures { result.now ≡ covered (map O.int offsets.now) values.now }
+{
+    bytes_between(offsets, values, 0, offsets.len() - 1)
+}
+
+/// The bytes from one offset up to another one. The offsets are sound, and within the values.
+fn bytes_between<'a, O: Offset>(offsets: &[O], values: &'a [u8], from: usize, to: usize) -> &'a [u8]
+    requires sound { AreSoundOffsets (map O.int offsets.now) }
+    requires bounds { nat_of (last_of (map O.int offsets.now)) ≤ length values.now }
+    requires order { from ≤ to }
+    requires within { to < length offsets.now }
+    ensures { result.now ≡ slice_range values.now (nat_of (offset_at (map O.int offsets.now) from)) (nat_of (offset_at (map O.int offsets.now) to)) }
+{
+    let start = place(offsets, from);
+    let end = place(offsets, to);
+    &values[start..end]
+}
