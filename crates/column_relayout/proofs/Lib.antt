@@ -1,0 +1,3 @@
+pub mod SlotsLemmas
+pub mod StepsLemmas
+pub mod PlansLemmas

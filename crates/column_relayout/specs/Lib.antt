@@ -1,0 +1,7 @@
+pub mod Kinds
+pub mod Slots
+pub mod Columns
+pub mod Plans
+pub mod Steps
+pub mod Arrays
+pub mod Relayouts

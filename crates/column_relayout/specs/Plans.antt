@@ -1,0 +1,83 @@
+-- What a plan means for lists of slots, where it faults, and which plans move no byte.
+use Rattle.std.specs.Prelude.{◌≡◌, ℕ, ◌+◌, Bool, true, nat_lt, List, [], ◌∷◌, length, fold, MatchBool, Option, Some, None}
+use Rattle.column_base.specs.declared.errors.Cause.{Cause}
+use Rattle.column_base.specs.declared.errors.Cause.TheVariants.{StepRange}
+use Rattle.column_base.specs.Answers.{cause_if}
+use Rattle.column_base.specs.Kinds.{Slot, ColumnKind}
+use Rattle.column_base.specs.Lists.{sublist}
+use Rattle.column_relayout.specs.declared.steps.Step.{Step}
+use Rattle.column_relayout.specs.declared.steps.Step.TheVariants.{Slice}
+use Rattle.column_relayout.specs.Slots.{offset_lists}
+use Rattle.column_relayout.specs.Columns.{RawLists, raw_lists, slots_of, count_of}
+
+-- ---- one step
+
+-- a range that ends past the number of slots
+abbrev pub range_fault : ℕ → ℕ → ℕ → Option Cause
+range_fault count from n = cause_if (nat_lt count (from + n)) StepRange
+
+-- the first fault of a step
+unfoldable pub step_fault : ColumnKind → List Slot → Step → Option Cause
+step_fault kind slots (Slice from n) = range_fault (length slots) from n
+
+-- the kind that a step gives
+abbrev pub kind_after : ColumnKind → Step → ColumnKind
+kind_after kind (Slice from n) = kind
+
+-- the slots that a step gives
+unfoldable pub slots_after : List Slot → Step → List Slot
+slots_after slots (Slice from n) = sublist slots from n
+
+-- ---- the plan
+
+-- where a plan leads: to a kind and slots, or to the first step that has a fault, counted from 0
+pub data Meaning : Type 0 where
+  leads : ColumnKind → List Slot → Meaning
+  faults : ℕ → Cause → Meaning
+
+abbrev pub at_fault : Option Cause → ℕ → Meaning → Meaning
+at_fault None at meaning = meaning
+at_fault (Some cause) at meaning = faults at cause
+
+-- the steps in order, as long as none has a fault; the first is step `at`
+abbrev pub meaning_from : ℕ → ColumnKind → List Slot → List Step → Meaning
+meaning_from at kind slots [] = leads kind slots
+meaning_from at kind slots (step ∷ plan) = at_fault (step_fault kind slots step) at (meaning_from (at + 1) (kind_after kind step) (slots_after slots step) plan)
+
+abbrev pub plan_meaning : RawLists → List Step → Meaning
+plan_meaning column plan = meaning_from 0 column.kind (slots_of column) plan
+
+-- ---- light plans
+
+-- the step moves no byte of a column
+abbrev pub is_light : Step → Bool
+is_light (Slice from n) = true
+
+abbrev pub IsLight : List Step → Type 0
+IsLight [] = Unit {0}
+IsLight (step ∷ plan) = (is_light step ≡ true) × IsLight plan
+
+-- No step up to and with the first heavy one has a fault, and there is a heavy one.
+abbrev pub ReachesHeavy : ColumnKind → List Slot → List Step → Type 0
+ReachesHeavy kind slots [] = ⊥
+ReachesHeavy kind slots (step ∷ plan) = (step_fault kind slots step ≡ None) × MatchBool (is_light step) (ReachesHeavy (kind_after kind step) (slots_after slots step) plan) (Unit {0})
+
+-- The slots that light steps leave of the first ones: from which on, and how many.
+abbrev pub span_after : ℕ × ℕ → Step → ℕ × ℕ
+span_after span (Slice from n) = (span.0 + from, n)
+
+abbrev pub span_of : List Step → ℕ → ℕ × ℕ
+span_of plan n = fold span_after (0, n) plan
+
+-- the flags of a span of slots
+abbrev pub part_flags : Option (List Bool) → ℕ → ℕ → Option (List Bool)
+part_flags None from n = None
+part_flags (Some flags) from n = Some (sublist flags from n)
+
+-- The lists of a span of slots: their offsets, first and last included, all the value bytes, and their flags.
+unfoldable pub part_of : RawLists → ColumnKind → ℕ × ℕ → RawLists
+part_of column kind span = raw_lists kind (offset_lists (sublist column.lists.offsets span.0 (span.1 + 1)) column.lists.values (part_flags column.lists.flags span.0 span.1))
+
+-- what a light plan leaves of the lists
+abbrev pub light_lists : RawLists → List Step → RawLists
+light_lists column plan = part_of column (fold kind_after column.kind plan) (span_of plan (count_of column))
