@@ -1,0 +1,109 @@
+-- What a JSON value says as a document: raw parts and a plan, or its fault. This library's own.
+use Rattle.std.specs.Prelude.{◌≡◌, ℕ, Bool, false, if◌then◌else◌, List, [], codes, Option, None, Some, option_map, option_and_then, Result, Ok, Err, ⊤}
+use Rattle.std.specs.Option.{ok_or}
+use Rattle.std.specs.Str.{bytes_eq}
+use Rattle.serde_json.specs.Data.{Data, null}
+use Rattle.serde_json.specs.Find.{get, as_bool, as_str}
+use Rattle.column_relayout.specs.declared.columns.RawColumn.{RawColumn}
+use Rattle.column_relayout.specs.declared.columns.RawColumn.TheVariants.{Offset32}
+use Rattle.column_relayout.specs.declared.kind.Kind.{Kind}
+use Rattle.column_relayout.specs.declared.kind.Kind.TheVariants.{Binary32}
+use Rattle.column_relayout.specs.declared.steps.Step.{Step}
+use Rattle.column_document.specs.declared.field.Field.{Field}
+use Rattle.column_document.specs.declared.field.Field.TheVariants as field
+use Rattle.column_document.specs.declared.field.DocFault.{DocFault}
+use Rattle.column_document.specs.declared.field.DocFault.TheVariants.{BadField, Unbuilt}
+use Rattle.column_document.specs.declared.field.DocError.{DocError}
+use Rattle.column_document.specs.declared.field.DocError.TheVariants as error
+use Rattle.column_document.specs.declared.from_json.Unread.{Unread}
+use Rattle.column_document.specs.declared.from_json.Unread.TheVariants as unread
+use Rattle.column_document.specs.Fields.{field_name}
+use Rattle.column_document.specs.Values.{list_of, i32_of, hex_of}
+use Rattle.column_document.specs.Steps.{step_of}
+use Rattle.column_document.specs.Unbuilt.{has_unbuilt_word}
+
+-- ---- answers
+
+-- What a reader of fields answers for what they say, or for their fault; want of memory may come for any.
+abbrev pub ReadsFieldsAs : {T D : Type 0} → (T → D) → Result T DocError → Result D DocFault → Type 0
+ReadsFieldsAs seen (Ok read) said = said ≡ Ok (seen read)
+ReadsFieldsAs seen (Err error.NoMemory) said = ⊤
+ReadsFieldsAs seen (Err (error.Fault fault)) said = said ≡ Err fault
+
+abbrev pub ReadsFields : {T : Type 0} → Result T DocError → Result T DocFault → Type 0
+ReadsFields = ReadsFieldsAs (λ read. read)
+
+-- the error of a field whose value was not read
+abbrev pub error_at : Field → Unread → DocError
+error_at field unread.NoMemory = error.NoMemory
+error_at field unread.Bad = error.Fault (BadField field)
+
+-- ---- fields
+
+-- the next field, where those before it are good
+infixl 10 ◌>>=◌
+abbrev pub ◌>>=◌ : {A B : Type 0} → Result A DocFault → (A → Result B DocFault) → Result B DocFault
+Ok x >>= f = f x
+Err fault >>= f = Err fault
+
+-- a field that has to be there
+abbrev pub needed : {T : Type 0} → Field → (Data → Option T) → Data → Result T DocFault
+needed field of document = ok_or (option_and_then of (get (field_name field) document)) (BadField field)
+
+-- `kind`: the word for a kind that is built
+abbrev pub kind_named : List ℕ → Option Kind
+kind_named word = if bytes_eq word (codes "binary32") then Some Binary32 else None
+
+abbrev pub kind_from : Data → Option Kind
+kind_from value = option_and_then kind_named (as_str value)
+
+-- `validity`: missing, null, or a flag for each slot
+abbrev pub optional_flags : Option Data → Option (Option (List Bool))
+optional_flags None = Some None
+optional_flags (Some null) = Some None
+optional_flags (Some value) = option_map Some (list_of as_bool value)
+
+abbrev pub validity_of : Data → Result (Option (List Bool)) DocFault
+validity_of document = ok_or (optional_flags (get (field_name field.Validity) document)) (BadField field.Validity)
+
+-- `plan`: missing, or an array of steps
+abbrev pub optional_steps : Option Data → Option (List Step)
+optional_steps None = Some []
+optional_steps (Some value) = list_of step_of value
+
+abbrev pub plan_of : Data → Result (List Step) DocFault
+plan_of document = ok_or (optional_steps (get (field_name field.Plan) document)) (BadField field.Plan)
+
+-- ---- the document
+
+-- lists with offsets of 32 bits: `offsets`, `values` and `validity`
+abbrev pub short_parts : Bool → Data → Result RawColumn DocFault
+short_parts text document = do
+  offsets ← needed field.Offsets (list_of i32_of) document
+  values ← needed field.Values hex_of document
+  validity ← validity_of document
+  Ok (Offset32 text offsets values validity)
+
+-- the fields of a kind
+abbrev pub parts_of : Kind → Data → Result RawColumn DocFault
+parts_of Binary32 document = short_parts false document
+
+-- raw parts of a column, and the steps to take
+pub record Document : Type 0 where
+  pub parts : RawColumn
+  pub plan : List Step
+
+abbrev pub document : RawColumn → List Step → Document
+document parts plan = record { parts = parts; plan = plan }
+
+-- the fields in their order, to the first that is missing or bad
+abbrev pub fields_of : Data → Result Document DocFault
+fields_of value = do
+  kind ← needed field.Kind kind_from value
+  parts ← parts_of kind value
+  plan ← plan_of value
+  Ok (document parts plan)
+
+-- What a JSON value says. A word that is not built yet comes before all else.
+unfoldable pub document_of : Data → Result Document DocFault
+document_of value = if has_unbuilt_word value then Err Unbuilt else fields_of value

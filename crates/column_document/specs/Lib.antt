@@ -1,0 +1,5 @@
+pub mod Fields
+pub mod Values
+pub mod Steps
+pub mod Unbuilt
+pub mod Document

@@ -1,0 +1,56 @@
+-- What single JSON values stand for in a document: this library's own.
+use Rattle.std.specs.Prelude.{◌≡◌, ℕ, ℤ, pos, negsuc, Bool, ◌&&◌, if◌then◌else◌, int_le, List, [], ◌∷◌, Option, None, Some, Result, Ok, Err, ⊤}
+use Rattle.std.specs.Result.{result_ok}
+use Rattle.hex.specs.Hex.{decode_of}
+use Rattle.serde_json.specs.Data.{Data, Items, no_items, item}
+use Rattle.serde_json.specs.Find.{as_str, as_number, as_array, as_i64, as_u64}
+use Rattle.column_document.specs.declared.from_json.Unread.{Unread}
+use Rattle.column_document.specs.declared.from_json.Unread.TheVariants.{NoMemory, Bad}
+
+-- What a reader answers for what a JSON value stands for, if for anything; want of memory may come for any.
+abbrev pub ReadsAs : {T D : Type 0} → (T → D) → Result T Unread → Option D → Type 0
+ReadsAs seen (Ok read) due = due ≡ Some (seen read)
+ReadsAs seen (Err NoMemory) due = ⊤
+ReadsAs seen (Err Bad) due = due ≡ None
+
+abbrev pub Reads : {T : Type 0} → Result T Unread → Option T → Type 0
+Reads = ReadsAs (λ read. read)
+
+-- what comes of a value that is there
+infixl 10 ◌>>=◌
+abbrev pub ◌>>=◌ : {A B : Type 0} → Option A → (A → Option B) → Option B
+None >>= f = None
+Some x >>= f = f x
+
+-- each item, where all of them stand for something
+abbrev pub each : {T : Type 0} → (Data → Option T) → Items → Option (List T)
+each of no_items = Some []
+each of (item first rest) = do
+  x ← of first
+  xs ← each of rest
+  Some (x ∷ xs)
+
+-- an array of such values
+abbrev pub list_of : {T : Type 0} → (Data → Option T) → Data → Option (List T)
+list_of of value = as_array value >>= each of
+
+-- a whole number of 32 bits in two's complement
+abbrev pub is_i32 : ℤ → Bool
+is_i32 number = int_le (negsuc 2147483647) number && int_le number (pos 2147483647)
+
+abbrev pub i32_of : Data → Option ℤ
+i32_of value = do
+  number ← as_number value
+  whole ← as_i64 number
+  if is_i32 whole then Some whole else None
+
+-- a whole number from 0 to 2^64 - 1
+abbrev pub u64_of : Data → Option ℕ
+u64_of value = as_number value >>= as_u64
+
+-- the bytes that hexadecimal digits in pairs spell, in either case
+abbrev pub bytes_of : List ℕ → Option (List ℕ)
+bytes_of text = result_ok (decode_of text)
+
+abbrev pub hex_of : Data → Option (List ℕ)
+hex_of value = as_str value >>= bytes_of

@@ -1,0 +1,118 @@
+//! Documents, field by field.
+
+ghost use Rattle.std.specs.Prelude.{◌≡◌, ◌≢◌, IfOk};
+ghost use Rattle.serde_json.specs.View.{view};
+ghost use Rattle.column_relayout.specs.Arrays.{IsBuilt};
+ghost use Rattle.column_document.specs.Document.{ReadsFields, ReadsFieldsAs, error_at, needed, kind_from, validity_of, plan_of, parts_of, short_parts, document, document_of};
+
+use crate::field::{DocError, DocFault, Field};
+use crate::from_json::{FromJson, Unread, read_list};
+use crate::unbuilt::has_unbuilt_word;
+use column_relayout::{Kind, RawColumn, Step};
+use column_storage::Bitmap;
+use serde_json::Value;
+use std::alloc::Global;
+
+/// The raw parts and the plan of a document.
+///
+/// Takes time and memory by the length of the fields that are read; each list is decoded once, into its own memory.
+/// `Unbuilt` where the kind or the first element of an array in the plan is a word that is not built yet, or else
+/// `BadField` with the first field that is missing or bad, in the order kind, offsets, values, validity, plan. Other
+/// fields are ignored. `Json` never comes, and `NoMemory` may come where a growth finds none.
+#[tactic(auto, unfolding(crate::specs::Document::document_of))]
+pub fn read_document(alloc: Global, value: &Value) -> Result<(RawColumn, Vec<Step>), DocError>
+    ensures said { ReadsFieldsAs (λ read. document read.0 read.1.items) result (document_of (view value.now)) }
+    ensures built { IfOk result (λ read. IsBuilt read.0) }
+    ensures parsed { document_of (view value.now) ≢ Err DocFault.Json }
+{
+    if has_unbuilt_word(value) {
+        return Err(DocFault::Unbuilt.into());
+    }
+    let kind = needed(alloc, value, Field::Kind)?;
+    let parts = read_parts(alloc, value, kind)?;
+    let plan = read_plan(alloc, value)?;
+    Ok((parts, plan))
+}
+
+fn read_parts(alloc: Global, document: &Value, kind: Kind) -> Result<RawColumn, DocError>
+    ensures said { ReadsFields result (parts_of kind (view document.now)) }
+    ensures built { IfOk result (λ parts. IsBuilt parts) }
+{
+    match kind {
+        Kind::Binary32 => read_short_parts(alloc, document, false),
+    }
+}
+
+fn read_short_parts(alloc: Global, document: &Value, text: bool) -> Result<RawColumn, DocError>
+    ensures said { ReadsFields result (short_parts text (view document.now)) }
+{
+    let offsets = needed(alloc, document, Field::Offsets)?;
+    let values = needed(alloc, document, Field::Values)?;
+    let validity = read_validity(alloc, document)?;
+    Ok(RawColumn::Offset32 {
+        text,
+        offsets,
+        values,
+        validity,
+    })
+}
+
+fn read_validity(alloc: Global, document: &Value) -> Result<Option<Bitmap>, DocError>
+    ensures { ReadsFields result (validity_of (view document.now)) }
+{
+    match document.get(Field::Validity.name()) {
+        None | Some(Value::Null) => Ok(None),
+        Some(value) => match Bitmap::from_json(alloc, value) {
+            Ok(validity) => Ok(Some(validity)),
+            Err(unread) => Err(unread.at(Field::Validity)),
+        },
+    }
+}
+
+fn read_plan(alloc: Global, document: &Value) -> Result<Vec<Step>, DocError>
+    ensures { ReadsFieldsAs (λ plan. plan.items) result (plan_of (view document.now)) }
+{
+    match document.get(Field::Plan.name()) {
+        None => Ok(Vec::new(alloc)),
+        Some(value) => match read_list(alloc, value) {
+            Ok(plan) => Ok(plan),
+            Err(unread) => Err(unread.at(Field::Plan)),
+        },
+    }
+}
+
+/// The value of a field that has to be there.
+fn needed<T: FromJson>(alloc: Global, document: &Value, field: Field) -> Result<T, DocError>
+    ensures { ReadsFields result (needed field T.of (view document.now)) }
+{
+    match document.get(field.name()) {
+        None => Err(Unread::Bad.at(field)),
+        Some(value) => match T::from_json(alloc, value) {
+            Ok(read) => Ok(read),
+            Err(unread) => Err(unread.at(field)),
+        },
+    }
+}
+
+impl Unread {
+    /// The error of a field with such a value.
+    fn at(self, field: Field) -> DocError
+        ensures { result ≡ error_at field self }
+    {
+        match self {
+            Unread::NoMemory => DocError::NoMemory,
+            Unread::Bad => DocFault::BadField(field).into(),
+        }
+    }
+}
+
+impl FromJson for Kind {
+    ghost of = { kind_from };
+
+    fn from_json(_alloc: Global, value: &Value) -> Result<Kind, Unread> {
+        match value.as_str() {
+            Some("binary32") => Ok(Kind::Binary32),
+            _ => Err(Unread::Bad),
+        }
+    }
+}

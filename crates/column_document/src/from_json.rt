@@ -1,0 +1,164 @@
+//! What single JSON values stand for: numbers, flags, bytes, and lists of them.
+
+ghost use Rattle.std.specs.Prelude.{◌≡◌, List, Option, None, Some};
+ghost use Rattle.serde_json.specs.Data.{Data};
+ghost use Rattle.serde_json.specs.View.{view, items_view};
+ghost use Rattle.column_document.specs.Values.{Reads, ReadsAs, each, list_of, is_i32, i32_of, u64_of, bytes_of, hex_of};
+
+use column_storage::{Bitmap, Buffer};
+use hex::FromHexError;
+use serde_json::Value;
+use std::alloc::{AllocError, AllocFailed, Global};
+
+/// Why a JSON value was not read.
+#[derive(Clone, Copy)]
+pub(crate) enum Unread {
+    /// A growth found no memory.
+    NoMemory,
+    /// The value stands for nothing of the type.
+    Bad,
+}
+
+impl From<AllocError> for Unread {
+    ghost use Rattle.column_document.specs.declared.from_json.Unread.TheVariants.{NoMemory};
+
+    ghost from_gives = { λ _ error. error ≡ NoMemory };
+
+    fn from(_error: AllocError) -> Unread {
+        Unread::NoMemory
+    }
+}
+
+impl<T: Drop> From<AllocFailed<T>> for Unread {
+    ghost use Rattle.column_document.specs.declared.from_json.Unread.TheVariants.{NoMemory};
+
+    ghost from_gives = { λ _ error. error ≡ NoMemory };
+
+    fn from(_error: AllocFailed<T>) -> Unread {
+        Unread::NoMemory
+    }
+}
+
+/// What JSON values stand for.
+pub(crate) trait FromJson: Drop {
+    ghost of: { Data → Option Self };
+
+    fn from_json(alloc: Global, value: &Value) -> Result<Self, Unread>
+        ensures { Reads result (of (view value.now)) };
+}
+
+impl FromJson for bool {
+    ghost use Rattle.serde_json.specs.Find.{as_bool};
+
+    ghost of = { as_bool };
+
+    fn from_json(_alloc: Global, value: &Value) -> Result<bool, Unread> {
+        value.as_bool().ok_or(Unread::Bad)
+    }
+}
+
+impl FromJson for i32 {
+    ghost of = { i32_of };
+
+    fn from_json(_alloc: Global, value: &Value) -> Result<i32, Unread> {
+        match value.as_i64() {
+            Some(number) if is_i32(number) => Ok(number as i32),
+            _ => Err(Unread::Bad),
+        }
+    }
+}
+
+fn is_i32(number: i64) -> bool
+    ensures { result ≡ is_i32 number }
+{
+    -2_147_483_648 <= number && number <= 2_147_483_647
+}
+
+impl FromJson for usize {
+    ghost of = { u64_of };
+
+    fn from_json(_alloc: Global, value: &Value) -> Result<usize, Unread> {
+        match value.as_u64() {
+            Some(number) => Ok(number as usize),
+            None => Err(Unread::Bad),
+        }
+    }
+}
+
+/// The items of an array, each read as a `T`.
+pub(crate) fn read_list<T: FromJson>(alloc: Global, value: &Value) -> Result<Vec<T>, Unread>
+    ensures { ReadsAs (λ list. list.items) result (list_of T.of (view value.now)) }
+{
+    match value.as_array() {
+        Some(values) => read_each(alloc, values),
+        None => Err(Unread::Bad),
+    }
+}
+
+fn read_each<T: FromJson>(alloc: Global, values: &[Value]) -> Result<Vec<T>, Unread>
+    ensures { ReadsAs (λ list. list.items) result (each T.of (items_view values.now)) }
+{
+    let mut list = Vec::with_capacity(alloc, values.len())?;
+    for value in values {
+        list.push(T::from_json(alloc, value)?)?;
+    }
+    Ok(list)
+}
+
+/// The bytes that a text of hexadecimal digits spells.
+fn read_bytes(alloc: Global, text: &str) -> Result<Vec<u8>, Unread>
+    ensures { ReadsAs (λ list. list.items) result (bytes_of text.now) }
+{
+    match hex::decode(alloc, text) {
+        Ok(bytes) => Ok(bytes),
+        Err(FromHexError::OutOfMemory) => Err(Unread::NoMemory),
+        Err(_) => Err(Unread::Bad),
+    }
+}
+
+fn to_buffer<T: Copy>(alloc: Global, values: Vec<T>) -> Result<Buffer<T>, Unread>
+    ensures { Reads result (Some values.items) }
+{
+    match Buffer::from_vec(alloc, values) {
+        Ok(buffer) => Ok(buffer),
+        Err(_) => Err(Unread::NoMemory),
+    }
+}
+
+fn to_bitmap(alloc: Global, flags: Vec<bool>) -> Result<Bitmap, Unread>
+    ensures { Reads result (Some flags.items) }
+{
+    match Bitmap::from_vec(alloc, flags) {
+        Ok(bitmap) => Ok(bitmap),
+        Err(_) => Err(Unread::NoMemory),
+    }
+}
+
+impl FromJson for Buffer<i32> {
+    ghost of = { list_of i32_of };
+
+    fn from_json(alloc: Global, value: &Value) -> Result<Buffer<i32>, Unread> {
+        to_buffer(alloc, read_list(alloc, value)?)
+    }
+}
+
+impl FromJson for Buffer<u8> {
+    ghost of = { hex_of };
+
+    fn from_json(alloc: Global, value: &Value) -> Result<Buffer<u8>, Unread> {
+        match value.as_str() {
+            Some(text) => to_buffer(alloc, read_bytes(alloc, text)?),
+            None => Err(Unread::Bad),
+        }
+    }
+}
+
+impl FromJson for Bitmap {
+    ghost use Rattle.serde_json.specs.Find.{as_bool};
+
+    ghost of = { list_of as_bool };
+
+    fn from_json(alloc: Global, value: &Value) -> Result<Bitmap, Unread> {
+        to_bitmap(alloc, read_list(alloc, value)?)
+    }
+}
