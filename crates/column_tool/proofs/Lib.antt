@@ -1,0 +1,4 @@
+pub mod TextLemmas
+pub mod DocumentsLemmas
+pub mod RepliesLemmas
+pub mod WordsLemmas

@@ -1,0 +1,82 @@
+-- What follows from a reply.
+use Rattle.std.proofs.Common.{◌≡◌, ℕ, List, Option, None, Result, Ok, Err, refl, sym, ◌∙◌, subst, inl}
+use Rattle.column_base.specs.declared.errors.Cause.{Cause}
+use Rattle.column_relayout.specs.declared.columns.ColumnError.{ColumnError}
+use Rattle.column_relayout.specs.declared.columns.ColumnError.TheVariants as refusals
+use Rattle.column_relayout.specs.Columns.{RawLists}
+use Rattle.column_relayout.specs.Arrays.{lists_of}
+use Rattle.column_relayout.specs.Plans.{Meaning, plan_meaning, light_lists}
+use Rattle.column_relayout.specs.Relayouts.{IsAnswered, Relayouts}
+use Rattle.column_document.specs.declared.field.DocFault.{DocFault}
+use Rattle.column_document.specs.Document.{Document}
+use Rattle.column_tool.specs.declared.outcome.Outcome.{Outcome}
+use Rattle.column_tool.specs.declared.outcome.Outcome.TheVariants.{Done, Refused, BadDocument, Usage, ReadFault, WriteFault, TooLong, NoMemory}
+use Rattle.column_tool.specs.Text.{printed, refusal_line}
+use Rattle.column_tool.specs.Documents.{document_in}
+use Rattle.column_tool.specs.Replies.{parts_in, IsReply, IsColumnText, IsDueAfter, IsDue, AnswersAfter, AnswersExactly}
+use Rattle.column_tool.proofs.TextLemmas.{printed-alike}
+
+-- ---- the text
+
+due_of_column : (document : Document) (column : RawLists) (text : List ℕ) → IsAnswered (parts_in document) document.plan column → text ≡ printed column → IsDue (Ok document) text
+due_of_column document column text answered is =
+    let due : IsColumnText (parts_in document) document text = record {
+      column = column;
+      answered = answered;
+      is = is;
+      light = λ light. is ∙ printed-alike column (light_lists (parts_in document) document.plan) (answered.light light);
+    } in
+    subst (λ (fault : Option Cause). IsDueAfter document fault (plan_meaning (parts_in document) document.plan) text) (sym answered.sound)
+    (subst (λ (meaning : Meaning). IsDueAfter document None meaning text) (sym answered.meaning) due)
+
+due_of_refusal : (document : Document) (refusal : ColumnError) (text : List ℕ) → Relayouts (parts_in document) document.plan (Err refusal) → (refusal ≡ refusals.NoMemory → ⊥) → text ≡ refusal_line refusal → IsDue (Ok document) text
+due_of_refusal document refusals.NoMemory text refused cause is = absurd (cause refl)
+due_of_refusal document (refusals.Parts cause) text refused some is =
+    subst (λ (fault : Option Cause). IsDueAfter document fault (plan_meaning (parts_in document) document.plan) text) (sym refused) is
+due_of_refusal document (refusals.Step at cause) text refused some is =
+    subst (λ (fault : Option Cause). IsDueAfter document fault (plan_meaning (parts_in document) document.plan) text) (sym refused.0)
+    (subst (λ (meaning : Meaning). IsDueAfter document None meaning text) (sym refused.1) is)
+
+pub is_due : (bytes : List ℕ) (outcome : Outcome) (text : List ℕ) → IsReply bytes outcome text → IsDue (document_in bytes) text
+is_due bytes (Done column) text reply =
+    let made = reply.0 in
+    subst (λ (said : Result Document DocFault). IsDue said text) (sym made.read) (due_of_column made.document (lists_of column) text made.answered reply.1)
+is_due bytes (Refused refusal) text reply =
+    let refused = reply.0 in
+    subst (λ (said : Result Document DocFault). IsDue said text) (sym refused.read) (due_of_refusal refused.document refusal text refused.refused refused.cause reply.1)
+is_due bytes (BadDocument fault) text reply = subst (λ (said : Result Document DocFault). IsDue said text) (sym reply.0) reply.1
+is_due bytes Usage text reply = absurd reply
+is_due bytes ReadFault text reply = absurd reply
+is_due bytes WriteFault text reply = absurd reply
+is_due bytes TooLong text reply = absurd reply
+is_due bytes NoMemory text reply = absurd reply
+
+-- ---- the outcome
+
+exact_of_refusal : (document : Document) (refusal : ColumnError) → Relayouts (parts_in document) document.plan (Err refusal) → (refusal ≡ refusals.NoMemory → ⊥) → AnswersExactly (Ok document) (Refused refusal)
+exact_of_refusal document refusals.NoMemory refused cause = absurd (cause refl)
+exact_of_refusal document (refusals.Parts cause) refused some =
+    subst (λ (fault : Option Cause). AnswersAfter fault (plan_meaning (parts_in document) document.plan) (Refused (refusals.Parts cause))) (sym refused) (inl refl)
+exact_of_refusal document (refusals.Step at cause) refused some =
+    subst (λ (fault : Option Cause). AnswersAfter fault (plan_meaning (parts_in document) document.plan) (Refused (refusals.Step at cause))) (sym refused.0)
+    (subst (λ (meaning : Meaning). AnswersAfter None meaning (Refused (refusals.Step at cause))) (sym refused.1) (inl refl))
+
+pub is_exact : (bytes : List ℕ) (outcome : Outcome) (text : List ℕ) → IsReply bytes outcome text → AnswersExactly (document_in bytes) outcome
+is_exact bytes (Done column) text reply =
+    let made = reply.0 in
+    let answered = made.answered in
+    let parts = parts_in made.document in
+    subst (λ (said : Result Document DocFault). AnswersExactly said (Done column)) (sym made.read)
+    (subst (λ (fault : Option Cause). AnswersAfter fault (plan_meaning parts made.document.plan) (Done column)) (sym answered.sound)
+    (subst (λ (meaning : Meaning). AnswersAfter None meaning (Done column)) (sym answered.meaning) tt))
+is_exact bytes (Refused refusal) text reply =
+    let refused = reply.0 in
+    subst (λ (said : Result Document DocFault). AnswersExactly said (Refused refusal)) (sym refused.read) (exact_of_refusal refused.document refusal refused.refused refused.cause)
+is_exact bytes (BadDocument fault) text reply = subst (λ (said : Result Document DocFault). AnswersExactly said (BadDocument fault)) (sym reply.0) (inl refl)
+is_exact bytes Usage text reply = absurd reply
+is_exact bytes ReadFault text reply = absurd reply
+is_exact bytes WriteFault text reply = absurd reply
+is_exact bytes TooLong text reply = absurd reply
+is_exact bytes NoMemory text reply = absurd reply
+
+pub ruleset reply_laws = (is_due, is_exact)

@@ -1,0 +1,44 @@
+-- One more line of a text.
+use Rattle.std.proofs.Common.{◌≡◌, ℕ, ◌+◌, ◌<◌, ℤ, Bool, true, codes, List, [], ◌∷◌, ◌++◌, length, take, map, get_or, sym, ◌∙◌, ap, append-nil}
+use Rattle.std.specs.List.{flat_map}
+use Rattle.std.proofs.lemmas.List.{take_more}
+use Rattle.std.proofs.lemmas.List.Concat.{flat_map-append}
+use Rattle.std.proofs.lemmas.List.Folds.{flat_map-map}
+use Rattle.hex.specs.Hex.{encode_lower}
+use Rattle.column_base.specs.Kinds.{Slot, ColumnKind}
+use Rattle.column_storage.specs.Bits.{flags_of}
+use Rattle.column_offset.specs.Text.{pieces}
+use Rattle.column_relayout.specs.Slots.{slot_at, slots_by, offset_slots}
+use Rattle.column_relayout.specs.Columns.{RawLists, slots_of, count_of, AreAlike}
+use Rattle.column_tool.specs.Text.{slot_line, after_comma, numbers_text, offset_text, printed_head, printed}
+
+line_more : {X : Type 0} (f : X → List ℕ) (xs : List X) (i : ℕ) (d : X) → i < length xs → flat_map f (take (i + 1) xs) ≡ flat_map f (take i xs) ++ f (get_or xs i d)
+line_more f xs i d within =
+    ap (flat_map f) (take_more xs i d within)
+    ∙ flat_map-append f (take i xs) (get_or xs i d ∷ [])
+    ∙ ap (λ (line : List ℕ). flat_map f (take i xs) ++ line) (append-nil (f (get_or xs i d)))
+
+pub next_line : (slots : List Slot) (i : ℕ) → i < length slots → flat_map slot_line (take (i + 1) slots) ≡ flat_map slot_line (take i slots) ++ slot_line (slot_at slots i)
+next_line slots i within = line_more slot_line slots i (record { valid = true; bytes = [] }) within
+
+-- the numbers of a list of offsets
+pub next_number : {X : Type 0} (int : X → ℤ) (xs : List X) (i : ℕ) (x : X) → i < length xs → x ≡ get_or xs i x → flat_map after_comma (map int (take (i + 1) xs)) ≡ flat_map after_comma (map int (take i xs)) ++ after_comma (int x)
+next_number {X = X} int xs i x within is =
+    flat_map-map after_comma int (take (i + 1) xs)
+    ∙ line_more (λ (y : X). after_comma (int y)) xs i x within
+    ∙ ap (λ (y : X). flat_map (λ (z : X). after_comma (int z)) (take i xs) ++ after_comma (int y)) (sym is)
+    ∙ ap (λ (text : List ℕ). text ++ after_comma (int x)) (sym (flat_map-map after_comma int (take i xs)))
+
+-- ---- columns that are alike
+
+pub printed-alike : (a b : RawLists) → AreAlike a b → printed a ≡ printed b
+unfolding printed offset_slots
+printed-alike a b alike =
+    let slots : slots_of a ≡ slots_of b =
+    ap (λ (flags : List Bool). slots_by flags (pieces a.lists.offsets a.lists.values)) alike.flags
+    ∙ ap (λ (offsets : List ℤ). slots_by (flags_of (count_of b) b.lists.flags) (pieces offsets a.lists.values)) alike.offsets
+    ∙ ap (λ (values : List ℕ). slots_by (flags_of (count_of b) b.lists.flags) (pieces b.lists.offsets values)) alike.values in
+    ap (λ (kind : ColumnKind). printed_head kind (slots_of a) ++ offset_text a.lists) alike.kinds
+    ∙ ap (λ (slots : List Slot). printed_head b.kind slots ++ offset_text a.lists) slots
+    ∙ ap (λ (offsets : List ℤ). printed_head b.kind (slots_of b) ++ (codes "offsets=" ++ numbers_text offsets ++ codes "\nvalues=" ++ encode_lower a.lists.values ++ codes "\n")) alike.offsets
+    ∙ ap (λ (values : List ℕ). printed_head b.kind (slots_of b) ++ (codes "offsets=" ++ numbers_text b.lists.offsets ++ codes "\nvalues=" ++ encode_lower values ++ codes "\n")) alike.values

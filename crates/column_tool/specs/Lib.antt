@@ -1,0 +1,6 @@
+pub mod Text
+pub mod Documents
+pub mod Outcomes
+pub mod Ends
+pub mod Replies
+pub mod Runs

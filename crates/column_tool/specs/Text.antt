@@ -1,0 +1,50 @@
+-- The printed text of a column, and of a refusal: this library's own.
+use Rattle.std.specs.Prelude.{ℕ, ℤ, Bool, true, false, List, [], ◌∷◌, ◌++◌, length, codes, decimal}
+use Rattle.std.specs.Fmt.{signed_decimal}
+use Rattle.std.specs.List.{flat_map}
+use Rattle.hex.specs.Hex.{encode_lower}
+use Rattle.column_base.specs.Kinds.{Slot, ColumnKind}
+use Rattle.column_base.specs.Errors.{name_of}
+use Rattle.column_relayout.specs.declared.columns.ColumnError.{ColumnError}
+use Rattle.column_relayout.specs.declared.columns.ColumnError.TheVariants.{NoMemory, Parts, Step}
+use Rattle.column_relayout.specs.Kinds.{kind_name}
+use Rattle.column_relayout.specs.Slots.{OffsetLists}
+use Rattle.column_relayout.specs.Columns.{RawLists, slots_of}
+
+-- ---- a column
+
+abbrev pub sign_of : Bool → List ℕ
+sign_of true = codes "+"
+sign_of false = codes "-"
+
+-- a slot: its sign, and its bytes in hexadecimal
+abbrev pub slot_line : Slot → List ℕ
+slot_line slot = sign_of slot.valid ++ encode_lower slot.bytes ++ codes "\n"
+
+-- the kind, the number of slots, and the slots
+abbrev pub printed_head : ColumnKind → List Slot → List ℕ
+printed_head kind slots = codes "ok " ++ kind_name kind ++ codes " " ++ decimal (length slots) ++ codes "\n" ++ flat_map slot_line slots
+
+abbrev pub after_comma : ℤ → List ℕ
+after_comma n = codes "," ++ signed_decimal n
+
+-- numbers, joined by commas
+abbrev pub numbers_text : List ℤ → List ℕ
+numbers_text [] = []
+numbers_text (n ∷ ns) = signed_decimal n ++ flat_map after_comma ns
+
+-- the lists of a column with offsets
+abbrev pub offset_text : OffsetLists → List ℕ
+offset_text lists = codes "offsets=" ++ numbers_text lists.offsets ++ codes "\nvalues=" ++ encode_lower lists.values ++ codes "\n"
+
+-- a column whole
+unfoldable pub printed : RawLists → List ℕ
+printed column = printed_head column.kind (slots_of column) ++ offset_text column.lists
+
+-- ---- a refusal
+
+-- parts or a step that were refused, with the cause; want of memory has no text
+unfoldable pub refusal_line : ColumnError → List ℕ
+refusal_line NoMemory = []
+refusal_line (Parts cause) = codes "refused parts " ++ name_of cause ++ codes "\n"
+refusal_line (Step at cause) = codes "refused step " ++ decimal at ++ codes " " ++ name_of cause ++ codes "\n"

@@ -1,0 +1,184 @@
+//! The printed text of a column, and of a refusal.
+
+ghost use Rattle.std.specs.Prelude.{◌≡◌, ◌≢◌, ◌++◌, IfOk, OnOk, decimal, None, map, codes};
+ghost use Rattle.std.specs.List.{flat_map};
+ghost use Rattle.std.specs.Fmt.{signed_decimal};
+ghost use Rattle.hex.specs.Hex.{encode_lower};
+ghost use Rattle.column_base.specs.Answers.{Answers};
+ghost use Rattle.column_base.specs.Kinds.{ColumnKind};
+ghost use Rattle.column_relayout.specs.Kinds.{kind_of};
+ghost use Rattle.column_relayout.specs.Slots.{offset_slots, AreSoundLists};
+ghost use Rattle.column_relayout.specs.Arrays.{lists_of};
+ghost use Rattle.column_relayout.specs.Columns.{raw_lists};
+ghost use Rattle.column_base.specs.Errors.{name_of};
+ghost use Rattle.column_tool.specs.Text.{printed, printed_head, slot_line, sign_of, after_comma, numbers_text, offset_text, refusal_line};
+
+use column_base::{Cause, Offset, PolarsError};
+use column_relayout::{AnyArray, BinaryArray, ColumnError, Kind};
+use itoa::Integer;
+use std::alloc::{AllocError, Global};
+
+/// Offsets as they are printed: as whole numbers in decimal.
+trait PrintedOffset: Offset + Integer {
+    ghost use Rattle.std.specs.Prelude.{◌≡◌};
+    ghost use Rattle.std.specs.Fmt.{signed_decimal};
+
+    ghost is_decimal: { (n : Self) → Self.text n ≡ signed_decimal (Self.int n) };
+}
+
+impl PrintedOffset for i32 {
+    ghost use Rattle.std.specs.Prelude.{refl};
+
+    ghost is_decimal = { λ n. refl };
+}
+
+fn append_hex(alloc: Global, text: &mut Vec<u8>, bytes: &[u8]) -> Result<(), AllocError>
+    ensures { OnOk result (text.new.items ≡ text.old.items ++ encode_lower bytes.now) }
+{
+    let digits = hex::encode(alloc, bytes)?;
+    text.extend_from_slice(digits.as_bytes())
+}
+
+fn append_number<N: Integer>(text: &mut Vec<u8>, number: N) -> Result<(), AllocError>
+    ensures { OnOk result (text.new.items ≡ text.old.items ++ N.text number) }
+{
+    text.extend_from_slice(itoa::Buffer::new().format(number).as_bytes())
+}
+
+fn append_slot(
+    alloc: Global,
+    text: &mut Vec<u8>,
+    valid: bool,
+    bytes: &[u8],
+) -> Result<(), AllocError>
+    ensures { OnOk result (text.new.items ≡ text.old.items ++ (sign_of valid ++ encode_lower bytes.now ++ codes "\n")) }
+{
+    text.push(if valid { b'+' } else { b'-' })?;
+    append_hex(alloc, text, bytes)?;
+    text.push(b'\n')?;
+    Ok(())
+}
+
+#[tactic(auto, using(crate::proofs::TextLemmas::next_line))]
+fn append_slots<O: Offset>(
+    alloc: Global,
+    text: &mut Vec<u8>,
+    array: &BinaryArray<O>,
+) -> Result<(), AllocError>
+    ensures { OnOk result (text.new.items ≡ text.old.items ++ flat_map slot_line (offset_slots array.now)) }
+{
+    for i in 0..array.len() {
+        append_slot(alloc, text, array.is_valid(i), array.value(i))?;
+    }
+    Ok(())
+}
+
+fn append_next<O: PrintedOffset>(text: &mut Vec<u8>, offset: O) -> Result<(), AllocError>
+    ensures { OnOk result (text.new.items ≡ text.old.items ++ after_comma (O.int offset)) }
+{
+    text.push(b',')?;
+    append_number(text, offset)
+}
+
+#[tactic(auto, using(crate::proofs::TextLemmas::next_number))]
+fn append_rest<O: PrintedOffset>(text: &mut Vec<u8>, offsets: &[O]) -> Result<(), AllocError>
+    ensures { OnOk result (text.new.items ≡ text.old.items ++ flat_map after_comma (map O.int offsets.now)) }
+{
+    for offset in offsets {
+        append_next(text, *offset)?;
+    }
+    Ok(())
+}
+
+fn append_offsets<O: PrintedOffset>(text: &mut Vec<u8>, offsets: &[O]) -> Result<(), AllocError>
+    ensures { OnOk result (text.new.items ≡ text.old.items ++ numbers_text (map O.int offsets.now)) }
+{
+    let Some((first, rest)) = offsets.split_first() else {
+        return Ok(());
+    };
+    append_number(text, *first)?;
+    append_rest(text, rest)
+}
+
+fn append_head(text: &mut Vec<u8>, kind: &str, count: usize) -> Result<(), AllocError>
+    ensures { OnOk result (text.new.items ≡ text.old.items ++ (codes "ok " ++ kind.now ++ codes " " ++ decimal count ++ codes "\n")) }
+{
+    text.extend_from_slice(b"ok ")?;
+    text.extend_from_slice(kind.as_bytes())?;
+    text.extend_from_slice(b" ")?;
+    append_number(text, count)?;
+    text.extend_from_slice(b"\n")
+}
+
+fn append_lists<O: PrintedOffset>(
+    alloc: Global,
+    text: &mut Vec<u8>,
+    array: &BinaryArray<O>,
+) -> Result<(), AllocError>
+    ensures { OnOk result (text.new.items ≡ text.old.items ++ offset_text array.now) }
+{
+    text.extend_from_slice(b"offsets=")?;
+    append_offsets(text, array.offsets().as_slice())?;
+    text.extend_from_slice(b"\nvalues=")?;
+    append_hex(alloc, text, array.values().as_slice())?;
+    text.extend_from_slice(b"\n")
+}
+
+#[tactic(auto, unfolding(crate::specs::Text::printed))]
+fn binary_text<O: PrintedOffset>(
+    alloc: Global,
+    kind: Kind,
+    array: &BinaryArray<O>,
+) -> Result<Vec<u8>, AllocError>
+    ensures { IfOk result (λ text. text.items ≡ printed (raw_lists (kind_of kind) array.now)) }
+{
+    let mut text = Vec::new(alloc);
+    append_head(&mut text, kind.name(), array.len())?;
+    append_slots(alloc, &mut text, array)?;
+    append_lists(alloc, &mut text, array)?;
+    Ok(text)
+}
+
+/// The text of a column, whole.
+///
+/// The line `ok KIND N`, a line for each slot with `+` where it is valid and `-` where it is null and its bytes in
+/// hexadecimal, and then its lists. `NoMemory` where there is none for the text.
+pub fn text_of(alloc: Global, column: &AnyArray) -> Result<Vec<u8>, PolarsError>
+    ensures { Answers result None (λ text. text.items ≡ printed (lists_of column.now)) }
+{
+    match column {
+        AnyArray::Binary32(array) => Ok(binary_text(alloc, Kind::Binary32, array)?),
+    }
+}
+
+fn append_cause(text: &mut Vec<u8>, cause: &Cause) -> Result<(), AllocError>
+    ensures { OnOk result (text.new.items ≡ text.old.items ++ (name_of cause.now ++ codes "\n")) }
+{
+    text.extend_from_slice(cause.name().as_bytes())?;
+    text.extend_from_slice(b"\n")
+}
+
+/// The line for parts or a step that were refused, with the cause.
+///
+/// `NoMemory` where there is none for the line. Want of memory as a refusal has no line.
+#[tactic(auto, unfolding(crate::specs::Text::refusal_line))]
+pub fn refusal_text(alloc: Global, refusal: &ColumnError) -> Result<Vec<u8>, PolarsError>
+    requires { refusal.now ≢ ColumnError.NoMemory }
+    ensures { Answers result None (λ text. text.items ≡ refusal_line refusal.now) }
+{
+    let mut text = Vec::new(alloc);
+    match refusal {
+        ColumnError::NoMemory => unreachable!(),
+        ColumnError::Parts(cause) => {
+            text.extend_from_slice(b"refused parts ")?;
+            append_cause(&mut text, cause)?;
+        }
+        ColumnError::Step(at, cause) => {
+            text.extend_from_slice(b"refused step ")?;
+            append_number(&mut text, *at)?;
+            text.extend_from_slice(b" ")?;
+            append_cause(&mut text, cause)?;
+        }
+    }
+    Ok(text)
+}
