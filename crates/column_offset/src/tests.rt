@@ -1,6 +1,6 @@
 use crate::{
-    Offsets, OffsetsBuffer, OffsetsContainer, check_indexes, slots_decide, try_check_offsets,
-    try_check_utf8, widened_is_narrow,
+    IndexKey, Offsets, OffsetsBuffer, OffsetsContainer, check_indexes, slots_decide,
+    try_check_offsets, try_check_utf8, widened_is_narrow,
 };
 use column_base::{Cause, Offset, PolarsError, Splitable};
 use std::test::Fail;
@@ -297,4 +297,37 @@ fn nested_slots_have_ranges(rt: HostRuntime) -> Result<(), Fail> {
     );
     assert!(rt; ranges.next().is_none());
     Ok(())
+}
+
+// whether the key at a place names one of three values
+fn names<K: IndexKey>(keys: &[K], at: usize) -> bool {
+    at < keys.len() && check_indexes(&keys[at..at + 1], 3).is_ok()
+}
+
+// the same of the first four keys
+fn first_names<K: IndexKey>(keys: &[K]) -> (bool, bool, bool, bool) {
+    (
+        names(keys, 0),
+        names(keys, 1),
+        names(keys, 2),
+        names(keys, 3),
+    )
+}
+
+#[test]
+fn signed_keys_are_tried_below_and_past(rt: HostRuntime) {
+    let wanted = (false, false, true, false);
+    assert_eq!(rt; first_names(&[i8::MIN, -1, 0, 3]), wanted);
+    assert_eq!(rt; first_names(&[i16::MIN, -1, 0, 3]), wanted);
+    assert_eq!(rt; first_names(&[i32::MIN, -1, 0, 3]), wanted);
+    assert_eq!(rt; first_names(&[i64::MIN, -1, 0, 3]), wanted);
+}
+
+#[test]
+fn unsigned_keys_are_tried_past(rt: HostRuntime) {
+    let wanted = (true, true, false, false);
+    assert_eq!(rt; first_names(&[0u8, 2, 3, u8::MAX]), wanted);
+    assert_eq!(rt; first_names(&[0u16, 2, 3, u16::MAX]), wanted);
+    assert_eq!(rt; first_names(&[0u32, 2, 3, u32::MAX]), wanted);
+    assert_eq!(rt; first_names(&[0u64, 2, 3, u64::MAX]), wanted);
 }
