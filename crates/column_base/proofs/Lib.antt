@@ -1,3 +1,4 @@
 pub mod ListsLemmas
+pub mod SlotsLemmas
 pub mod Utf8Lemmas
 pub mod AnswersLemmas

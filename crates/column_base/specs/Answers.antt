@@ -37,3 +37,8 @@ Answers (Err NoMemory) fault P = Unit {0}
 abbrev pub GivesCause : {X : Type 0} → Result X Cause → Option Cause → (X → Type 0) → Type 0
 GivesCause (Ok x) fault P = (fault ≡ None) × P x
 GivesCause (Err cause) fault P = fault ≡ Some cause
+
+-- The same, for a call that hands a value back beside the cause.
+abbrev pub GivesBack : {X Y : Type 0} → Result X (Y × Cause) → Option Cause → (X → Type 0) → (Y → Type 0) → Type 0
+GivesBack (Ok x) fault P Q = (fault ≡ None) × P x
+GivesBack (Err refused) fault P Q = (fault ≡ Some refused.1) × Q refused.0

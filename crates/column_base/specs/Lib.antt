@@ -1,5 +1,6 @@
 pub mod Lists
 pub mod Kinds
+pub mod Slots
 pub mod Errors
 pub mod Answers
 pub mod DataTypes
