@@ -1,6 +1,7 @@
--- Slots of text: one after another they are the covered bytes.
+-- Slots of text: end to end they are the bytes from the first offset up to the last.
 use Rattle.std.proofs.Common.{◌≡◌, ℕ, zero, suc, ◌+◌, ◌-◌, ◌<◌, ◌≤◌, ℤ, pos, negsuc, Bool, true, false, List, [], ◌∷◌, ◌++◌, length, take, drop, refl, sym, ◌∙◌, ap, subst, arith, append_assoc}
 use Rattle.std.specs.Prelude.{◌≤ℤ◌, ◌&&◌, ◌↔◌, not, nat_lt, slice_range, Option, Some, None, int_lt, if◌then◌else◌}
+use Rattle.std.specs.List.{concat}
 use Rattle.std.proofs.lemmas.Int.{ints}
 use Rattle.std.proofs.lemmas.Bool.{and_parts}
 use Rattle.std.proofs.lemmas.Bool.Decides.{nat_tests}
@@ -12,7 +13,7 @@ use Rattle.column_base.specs.Utf8.{is_well_formed_utf8, IsWellFormedUtf8}
 use Rattle.column_base.proofs.ListsLemmas.{take-take, drop-drop, drop-take}
 use Rattle.column_base.proofs.Utf8Lemmas.{well_formed-append}
 use Rattle.column_offset.specs.Offsets.{nat_of, offset_at, last_of, AreSoundOffsets, bounds_fault}
-use Rattle.column_offset.specs.Text.{pieces, covered, are_well_formed_utf8, text_fault}
+use Rattle.column_offset.specs.Text.{pieces, are_well_formed_utf8, texts_fault, text_fault}
 use Rattle.column_offset.proofs.OffsetsLemmas.{nat_of_order, places_in_order, from_zero}
 
 -- ---- a loop over slots
@@ -67,21 +68,24 @@ last_of-cons a b offsets =
     let e : length (a ∷ b ∷ offsets) - 1 ≡ suc (length (b ∷ offsets) - 1) = omega arith in
     rw e refl
 
-pub covered-cons : (a b : ℤ) (offsets : List ℤ) (values : List ℕ) → AreSoundOffsets (a ∷ b ∷ offsets)
-    → covered (a ∷ b ∷ offsets) values ≡ slice_range values (nat_of a) (nat_of b) ++ covered (b ∷ offsets) values
-covered-cons a b offsets values sound =
+-- the bytes of the slots, end to end
+pub covered_is : (offsets : List ℤ) (values : List ℕ) → AreSoundOffsets offsets → slice_range values (nat_of (offset_at offsets 0)) (nat_of (offset_at offsets (length offsets - 1))) ≡ concat (pieces offsets values)
+covered_is [] values sound = absurd (omega (arith, sound.not_empty))
+covered_is (a ∷ []) values sound = let e : nat_of a - nat_of a ≡ 0 = omega arith in rw e refl
+covered_is (a ∷ b ∷ offsets) values sound =
     let step : a ≤ℤ b = sound.never_falls 0 (omega arith) in
-    let rest : nat_of b ≤ nat_of (last_of (b ∷ offsets)) = places_in_order (b ∷ offsets) 0 (length (b ∷ offsets) - 1) (sound_tail a b offsets sound) (omega arith) (omega arith) in
-    rw (last_of-cons a b offsets) (sym (slice_range-join values (nat_of a) (nat_of b) (nat_of (last_of (b ∷ offsets))) (nat_of_order a b step) rest))
+    let tail = sound_tail a b offsets sound in
+    let rest : nat_of b ≤ nat_of (last_of (b ∷ offsets)) = places_in_order (b ∷ offsets) 0 (length (b ∷ offsets) - 1) tail (omega arith) (omega arith) in
+    rw (last_of-cons a b offsets)
+    (sym (slice_range-join values (nat_of a) (nat_of b) (nat_of (last_of (b ∷ offsets))) (nat_of_order a b step) rest)
+    ∙ ap (λ (bytes : List ℕ). slice_range values (nat_of a) (nat_of b) ++ bytes) (covered_is (b ∷ offsets) values tail))
 
--- texts one after another are a text
-pub covered_well_formed : (offsets : List ℤ) (values : List ℕ) → AreSoundOffsets offsets → are_well_formed_utf8 (pieces offsets values) ≡ true → is_well_formed_utf8 (covered offsets values) ≡ true
-covered_well_formed [] values sound all = absurd (omega (arith, sound.not_empty))
-covered_well_formed (a ∷ []) values sound all = let e : nat_of a - nat_of a ≡ 0 = omega arith in rw e refl
-covered_well_formed (a ∷ b ∷ offsets) values sound all =
-    let parts = and_parts (is_well_formed_utf8 (slice_range values (nat_of a) (nat_of b))) (are_well_formed_utf8 (pieces (b ∷ offsets) values)) all in
-    let rest = covered_well_formed (b ∷ offsets) values (sound_tail a b offsets sound) parts.1 in
-    rw (covered-cons a b offsets values sound) (well_formed-append (slice_range values (nat_of a) (nat_of b)) (covered (b ∷ offsets) values) parts.0 rest)
+-- texts end to end are a text
+pub concat_well_formed : (texts : List (List ℕ)) → are_well_formed_utf8 texts ≡ true → is_well_formed_utf8 (concat texts) ≡ true
+concat_well_formed [] all = refl
+concat_well_formed (text ∷ texts) all =
+    let parts = and_parts (is_well_formed_utf8 text) (are_well_formed_utf8 texts) all in
+    well_formed-append text (concat texts) parts.0 (concat_well_formed texts parts.1)
 
 -- ---- the first fault
 
@@ -95,20 +99,24 @@ last_is_there {offsets} sound = let some = sound.not_empty in omega arith
 pub within_values : (offsets : List ℤ) (count : ℕ) → AreSoundOffsets offsets → bounds_fault offsets count ≡ None → nat_of (last_of offsets) ≤ count
 within_values offsets count sound fine = last_within (last_of offsets) count (from_zero sound (length offsets - 1) (last_is_there sound)) fine
 
-pub text_sound : (offsets : List ℤ) (values : List ℕ) → AreSoundOffsets offsets → bounds_fault offsets (length values) ≡ None → are_well_formed_utf8 (pieces offsets values) ≡ true → text_fault offsets values ≡ None
+pub no_texts_fault : (texts : List (List ℕ)) → are_well_formed_utf8 texts ≡ true → texts_fault texts ≡ None
+unfolding texts_fault
+no_texts_fault texts all = rw (concat_well_formed texts all, all) refl
+
+pub text_sound : (offsets : List ℤ) (values : List ℕ) → bounds_fault offsets (length values) ≡ None → are_well_formed_utf8 (pieces offsets values) ≡ true → text_fault offsets values ≡ None
 unfolding text_fault
-text_sound offsets values sound within all = rw (within, covered_well_formed offsets values sound all, all) refl
+text_sound offsets values within all = rw (within, no_texts_fault (pieces offsets values) all) refl
 
 pub text_bounds : (offsets : List ℤ) (values : List ℕ) (cause : Cause) → bounds_fault offsets (length values) ≡ Some cause → text_fault offsets values ≡ Some cause
 unfolding text_fault
 text_bounds offsets values cause fault = rw fault refl
 
-pub text_invalid : (offsets : List ℤ) (values : List ℕ) → bounds_fault offsets (length values) ≡ None → is_well_formed_utf8 (covered offsets values) ≡ false → text_fault offsets values ≡ Some InvalidUtf8
-unfolding text_fault
+pub text_invalid : (offsets : List ℤ) (values : List ℕ) → bounds_fault offsets (length values) ≡ None → is_well_formed_utf8 (concat (pieces offsets values)) ≡ false → text_fault offsets values ≡ Some InvalidUtf8
+unfolding text_fault texts_fault
 text_invalid offsets values within bad = rw (within, bad) refl
 
-pub text_boundary : (offsets : List ℤ) (values : List ℕ) → bounds_fault offsets (length values) ≡ None → is_well_formed_utf8 (covered offsets values) ≡ true → are_well_formed_utf8 (pieces offsets values) ≡ false → text_fault offsets values ≡ Some CharBoundary
-unfolding text_fault
+pub text_boundary : (offsets : List ℤ) (values : List ℕ) → bounds_fault offsets (length values) ≡ None → is_well_formed_utf8 (concat (pieces offsets values)) ≡ true → are_well_formed_utf8 (pieces offsets values) ≡ false → text_fault offsets values ≡ Some CharBoundary
+unfolding text_fault texts_fault
 text_boundary offsets values within whole bad = rw (within, whole, bad) refl
 
 -- ---- each slot by itself
@@ -122,11 +130,17 @@ bounded : (last : ℤ) (count : ℕ) → nat_of last ≤ count → cause_if (int
 bounded (pos n) count within = let fits : nat_lt count n ≡ false = grind (arith, nat_tests) in rw fits refl
 bounded (negsuc n) count within = refl
 
+-- slots that are texts
+pub all_where_no_fault : (texts : List (List ℕ)) → texts_fault texts ≡ None → are_well_formed_utf8 texts ≡ true
+unfolding texts_fault
+all_where_no_fault texts none = last_test _ (are_well_formed_utf8 texts) CharBoundary none
+
 pub slots_decide : (offsets : List ℤ) (values : List ℕ) → AreSoundOffsets offsets → nat_of (last_of offsets) ≤ length values → (text_fault offsets values ≡ None) ↔ (are_well_formed_utf8 (pieces offsets values) ≡ true)
 unfolding text_fault
-slots_decide offsets values sound within = (
-  λ (none : text_fault offsets values ≡ None). last_test _ (are_well_formed_utf8 (pieces offsets values)) CharBoundary none,
-  λ (all : are_well_formed_utf8 (pieces offsets values) ≡ true). text_sound offsets values sound (bounded (last_of offsets) (length values) within) all,
-)
+slots_decide offsets values sound within =
+    let inside = bounded (last_of offsets) (length values) within in (
+      λ (none : text_fault offsets values ≡ None). all_where_no_fault (pieces offsets values) (subst (λ (first : Option Cause). (first or_else texts_fault (pieces offsets values)) ≡ None) inside none),
+      λ (all : are_well_formed_utf8 (pieces offsets values) ≡ true). text_sound offsets values inside all,
+    )
 
 pub ruleset texts = (within_values, text_sound, text_bounds, text_invalid, text_boundary, pieces-step, pieces-end)

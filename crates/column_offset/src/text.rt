@@ -1,9 +1,10 @@
 //! The check of text that is cut into slots.
 
 ghost use Rattle.std.specs.Prelude.{◌≡◌, ◌↔◌, ℕ, ℤ, ◌≤◌, ◌<◌, true, List, None, length, map, slice_range, ⊤};
+ghost use Rattle.std.specs.List.{concat};
 ghost use Rattle.column_base.specs.Answers.{Gives};
 ghost use Rattle.column_offset.specs.Offsets.{nat_of, offset_at, last_of, AreSoundOffsets};
-ghost use Rattle.column_offset.specs.Text.{pieces, covered, are_well_formed_utf8, text_fault};
+ghost use Rattle.column_offset.specs.Text.{pieces, are_well_formed_utf8, text_fault};
 
 use crate::checks::{place, try_check_offsets_bounds};
 use column_base::{Cause, Offset, PolarsError, is_utf8};
@@ -52,11 +53,12 @@ fn slots_are_utf8<O: Offset>(offsets: &[O], values: &[u8]) -> bool
     true
 }
 
-/// The bytes from the first offset up to the last. The offsets are sound, and within the values.
+/// The bytes of all slots, end to end. The offsets are sound, and within the values.
+#[tactic(auto, using(crate::proofs::TextLemmas::covered_is, crate::proofs::OffsetsLemmas::sound_offsets))]
 fn covered_bytes<'a, O: Offset>(offsets: &[O], values: &'a [u8]) -> &'a [u8]
     requires sound { AreSoundOffsets (map O.int offsets.now) }
     requires bounds { nat_of (last_of (map O.int offsets.now)) ≤ length values.now }
-    ensures { result.now ≡ covered (map O.int offsets.now) values.now }
+    ensures { result.now ≡ concat (pieces (map O.int offsets.now) values.now) }
 {
     bytes_between(offsets, values, 0, offsets.len() - 1)
 }
