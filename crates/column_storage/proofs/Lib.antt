@@ -1,3 +1,5 @@
+pub mod CountsLemmas
+pub mod FlagsLemmas
 pub mod OptionalLemmas
 pub mod PartsLemmas
 pub mod PlacesLemmas

@@ -1,7 +1,8 @@
 -- Laws of the values at the places of set bits.
-use Rattle.std.proofs.Common.{◌≡◌, ℕ, zero, suc, ◌+◌, Bool, true, false, List, [], ◌∷◌, length, drop, slice_get, Option, Some, None, IfSome, refl, ap, arith, add-one}
-use Rattle.std.proofs.lemmas.List.{length-drop, length-replicate}
-use Rattle.column_storage.specs.Bits.{flags_of, set_places, at_places, valid_values}
+use Rattle.std.proofs.Common.{◌≡◌, ℕ, zero, suc, ◌+◌, Bool, true, false, List, [], ◌∷◌, length, drop, slice_get, Some, refl, ap, arith, add-one}
+use Rattle.std.proofs.lemmas.List.{length-drop}
+use Rattle.column_storage.specs.Bits.{set_places, at_places, valid_values}
+use Rattle.column_storage.proofs.FlagsLemmas.{length-flags_of}
 
 -- an element of a list from a place on
 get-from : {X : Type 0} (xs : List X) (i : ℕ) (x : X) (rest : List X) → drop i xs ≡ x ∷ rest → (slice_get xs i ≡ Some x) × (drop (i + 1) xs ≡ rest)
@@ -35,10 +36,5 @@ count-from xs i (false ∷ bits) (x ∷ rest) e same =
 -- each place that is left has a value
 pub count-left : {X : Type 0} (xs : List X) (i : ℕ) (bits : List Bool) → length bits ≡ length xs → length (at_places xs (set_places i (drop i bits))) ≡ length (set_places i (drop i bits))
 count-left xs i bits same = count-from xs i (drop i bits) (drop i xs) refl (simp length-drop (omega arith))
-
--- given flags are as many as the values, and so are flags that are not given
-pub length-flags_of : (n : ℕ) (flags : Option (List Bool)) → IfSome flags (λ bits. length bits ≡ n) → length (flags_of n flags) ≡ n
-length-flags_of n None given = length-replicate n true
-length-flags_of n (Some bits) given = given
 
 pub ruleset values = (values-all, count-left, length-flags_of)

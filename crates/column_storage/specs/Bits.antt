@@ -1,6 +1,7 @@
 -- Lists of truth values, and what they say of the values beside them.
 use Rattle.std.specs.Prelude.{ℕ, ◌+◌, Bool, true, not, List, [], ◌∷◌, ◌++◌, replicate, slice_get, count_by, Option, Some, None, ◌==◌, if◌then◌else◌}
 use Rattle.std.specs.Option.{option_to_list}
+use Rattle.column_base.specs.Lists.{sublist}
 
 -- This library's own: a growing list of truth values, and how many more it takes without further memory.
 pub record GrowingBits : Type 0 where
@@ -15,6 +16,11 @@ flags_of n (Some flags) = flags
 
 abbrev pub kept_flags : List Bool → Option (List Bool)
 kept_flags flags = if count_by not flags == 0 then None else Some flags
+
+-- the flags of n slots from a place on, where some of them is false
+abbrev pub sliced_flags : Option (List Bool) → ℕ → ℕ → Option (List Bool)
+sliced_flags None from n = None
+sliced_flags (Some flags) from n = kept_flags (sublist flags from n)
 
 -- the places of set bits, where the first bit has the given place
 abbrev pub set_places : ℕ → List Bool → List ℕ

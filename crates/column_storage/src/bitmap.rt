@@ -15,22 +15,26 @@ use std::marker::Model;
 /// A list of truth values that cannot be changed, semantically a `Vec<bool>` whose clones and slices share their
 /// memory.
 ///
-/// A slice or a share costs the same whatever its length. Arrow columnar format, "Validity bitmaps".
+/// It keeps the number of its bits that are not set. A share takes constant time. A slice reads no more bits than it
+/// cuts off, so that a chain of slices reads no bit twice. Arrow columnar format, "Validity bitmaps".
 #[derive(Drop)]
 pub struct Bitmap {
     bits: Buffer<bool>,
+    unset: usize,
 }
 
 impl Model for Bitmap {
-    ghost use Rattle.std.specs.Prelude.{Bool, List};
+    ghost use Rattle.std.specs.Prelude.{◌≡◌, Bool, List, not, count_by};
 
     ghost Value = { List Bool };
 
     ghost view = { λ b. b.bits };
+
+    ghost invariant = { λ b. b.unset ≡ count_by not b.bits };
 }
 
 impl Bitmap {
-    /// The list of a slice, in one copy.
+    /// The list of a slice, in one copy and one pass.
     ///
     /// `NoMemory` where there is none for the copy.
     pub fn from_bools(alloc: Global, bits: &[bool]) -> Result<Self, PolarsError>
@@ -42,12 +46,26 @@ impl Bitmap {
 
     /// The list of a vector, which is not copied.
     ///
-    /// Takes memory for the count of its owners. `NoMemory` where there is none, and the vector is then dropped.
+    /// Counts the bits that are not set, in one pass. Takes memory for the count of its owners. `NoMemory` where there
+    /// is none, and the vector is then dropped.
     pub fn from_vec(alloc: Global, bits: Vec<bool>) -> Result<Self, PolarsError>
         ensures { Answers result None (λ b. b ≡ bits.items) }
     {
+        let unset = count_unset(&bits);
+        Bitmap::from_counted(alloc, bits, unset)
+    }
+
+    // The list of a vector of which `unset` bits are not set.
+    pub(crate) fn from_counted(
+        alloc: Global,
+        bits: Vec<bool>,
+        unset: usize,
+    ) -> Result<Self, PolarsError>
+        requires { unset ≡ count_by not bits.items }
+        ensures { Answers result None (λ b. b ≡ bits.items) }
+    {
         let bits = Buffer::from_vec(alloc, bits)?;
-        Ok(Bitmap { bits })
+        Ok(Bitmap { bits, unset })
     }
 
     /// `length` bits that are not set.
@@ -66,7 +84,7 @@ impl Bitmap {
         ensures { Answers result None (λ b. b ≡ replicate length value) }
     {
         let bits = vec![in alloc; value; length]?;
-        Bitmap::from_vec(alloc, bits)
+        Bitmap::from_counted(alloc, bits, unset_of_one_value(value, length))
     }
 
     /// The number of bits.
@@ -91,18 +109,19 @@ impl Bitmap {
         self.bits.as_slice()[i]
     }
 
-    /// The number of bits that are set, in linear time.
+    /// The number of bits that are set, in constant time.
+    #[tactic(auto, using(crate::proofs::CountsLemmas::counts))]
     pub fn set_bits(&self) -> usize
         ensures { result ≡ count_by (λ b. b) self.now }
     {
-        self.bits.as_slice().iter().filter(|bit| **bit).count()
+        self.bits.len() - self.unset
     }
 
-    /// The number of bits that are not set, in linear time.
+    /// The number of bits that are not set, in constant time.
     pub fn unset_bits(&self) -> usize
         ensures { result ≡ count_by not self.now }
     {
-        self.bits.as_slice().iter().filter(|bit| !**bit).count()
+        self.unset
     }
 
     /// The bits one by one, from both ends.
@@ -112,15 +131,22 @@ impl Bitmap {
         BitmapIter::new(self.bits.as_slice())
     }
 
-    /// Keeps the `length` bits from place `offset` on. Takes no memory.
+    /// Keeps the `length` bits from place `offset` on.
+    ///
+    /// Takes no memory. Counts the unset bits of the smaller of the part kept and the parts cut off, and none where no
+    /// bit is unset.
     pub fn slice(&mut self, offset: usize, length: usize)
         requires { offset + length ≤ list_length self.old }
         ensures { self.new ≡ sublist self.old offset length }
     {
+        let unset = unset_of_part(self.bits.as_slice(), self.unset, offset, length);
         self.bits.slice(offset, length);
+        self.unset = unset;
     }
 
-    /// The `length` bits from place `offset` on. Takes no memory.
+    /// The `length` bits from place `offset` on.
+    ///
+    /// Takes no memory, and counts as [`Bitmap::slice`] does.
     pub fn sliced(self, offset: usize, length: usize) -> Self
         requires { offset + length ≤ list_length self }
         ensures { result ≡ sublist self offset length }
@@ -148,13 +174,21 @@ impl Bitmap {
 
     /// The first `offset` bits, and the rest. Both share the memory of this list.
     ///
-    /// Copies no bit and takes no memory. `NoMemory` where the count of owners is full.
+    /// Copies no bit and takes no memory. Counts the unset bits of the smaller of the two, and none where no bit is
+    /// unset. `NoMemory` where the count of owners is full.
+    #[tactic(auto, using(crate::proofs::CountsLemmas::counts))]
     pub fn split_at(&self, offset: usize) -> Result<(Self, Self), PolarsError>
         requires { offset ≤ length self.now }
         ensures { Answers result None (λ parts. (parts.0 ≡ take offset self.now) × (parts.1 ≡ drop offset self.now)) }
     {
+        let unset = unset_of_part(self.bits.as_slice(), self.unset, 0, offset);
         let (first, rest) = self.bits.split_at(offset)?;
-        Ok((Bitmap { bits: first }, Bitmap { bits: rest }))
+        let first = Bitmap { bits: first, unset };
+        let rest = Bitmap {
+            bits: rest,
+            unset: self.unset - unset,
+        };
+        Ok((first, rest))
     }
 
     /// The list as a builder, to be changed.
@@ -175,6 +209,42 @@ impl Bitmap {
         ensures { Answers result None (λ b. b ≡ self.now) }
     {
         let bits = self.bits.try_clone()?;
-        Ok(Bitmap { bits })
+        Ok(Bitmap {
+            bits,
+            unset: self.unset,
+        })
     }
+}
+
+// The number of bits that are not set, in one pass.
+fn count_unset(bits: &[bool]) -> usize
+    ensures { result ≡ count_by not bits.now }
+{
+    bits.iter().filter(|bit| !**bit).count()
+}
+
+// The number of bits that are not set among `length` bits of one value.
+#[tactic(auto, using(crate::proofs::CountsLemmas::counts))]
+fn unset_of_one_value(value: bool, length: usize) -> usize
+    ensures { result ≡ count_by not (replicate length value) }
+{
+    if value { 0 } else { length }
+}
+
+// The number of bits that are not set among the `length` ones from place `offset` on, where `unset` of all are not
+// set. Reads the smaller of this part and the two beside it.
+#[tactic(auto, using(crate::proofs::CountsLemmas::counts))]
+fn unset_of_part(bits: &[bool], unset: usize, offset: usize, length: usize) -> usize
+    requires within { offset + length ≤ list_length bits.now }
+    requires counted { unset ≡ count_by not bits.now }
+    ensures { result ≡ count_by not (sublist bits.now offset length) }
+{
+    if unset == 0 {
+        return 0;
+    }
+    let end = offset + length;
+    if length <= bits.len() - length {
+        return count_unset(&bits[offset..end]);
+    }
+    unset - count_unset(&bits[..offset]) - count_unset(&bits[end..])
 }

@@ -12,6 +12,7 @@ mod non_null_values_iter;
 #[cfg(test)]
 mod tests;
 mod true_idx_iter;
+mod validity;
 mod values_iter;
 mod zip_validity;
 
@@ -24,5 +25,6 @@ pub use listed::{Flags, FlagsBack, Listed, ListedBack};
 pub use mutable_bitmap::MutableBitmap;
 pub use non_null_values_iter::NonNullValuesIter;
 pub use true_idx_iter::TrueIdxIter;
+pub use validity::{null_count, slice_validity};
 pub use values_iter::ArrayValuesIter;
 pub use zip_validity::ZipValidity;

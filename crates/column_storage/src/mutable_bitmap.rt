@@ -175,7 +175,8 @@ impl MutableBitmap {
 
     /// The list as a bitmap, whose bits are not copied.
     ///
-    /// Takes memory for the count of its owners. `NoMemory` where there is none.
+    /// Counts the bits that are not set, in one pass. Takes memory for the count of its owners. `NoMemory` where there
+    /// is none.
     pub fn freeze(self) -> Result<Bitmap, PolarsError>
         ensures { Answers result None (λ b. b ≡ self.bits) }
     {
@@ -185,15 +186,17 @@ impl MutableBitmap {
 
     /// The list as a validity, `None` exactly where no bit is unset.
     ///
-    /// Takes memory for the count of its owners. `NoMemory` where there is none. Arrow columnar format, "Validity
-    /// bitmaps".
+    /// Counts the bits that are not set, in one pass. Takes memory for the count of its owners. `NoMemory` where there
+    /// is none. Arrow columnar format, "Validity bitmaps".
     pub fn into_opt_validity(self) -> Result<Option<Bitmap>, PolarsError>
         ensures { Answers result None (λ validity. validity ≡ kept_flags self.bits) }
     {
-        if self.unset_bits() == 0 {
+        let unset = self.unset_bits();
+        if unset == 0 {
             return Ok(None);
         }
-        let validity = self.freeze()?;
+        let alloc = *self.values.allocator();
+        let validity = Bitmap::from_counted(alloc, self.values, unset)?;
         Ok(Some(validity))
     }
 
