@@ -1,5 +1,7 @@
 //! Values beside a validity, one by one.
 
+use crate::bitmap::Bitmap;
+use crate::bitmap_iter::BitmapIter;
 use crate::listed::{Flags, FlagsBack, Listed, ListedBack};
 use std::iter::FusedIterator;
 use std::marker::PhantomData;
@@ -16,9 +18,10 @@ pub struct ZipValidity<T, I, V> {
 }
 
 ghost use Rattle.std.specs.Prelude.{◌≡◌, ◌<◌, length, Some, None, IfSome, if◌then◌else◌};
-ghost use Rattle.std.specs.Option.{option_map};
+ghost use Rattle.std.specs.Option.{option_copied, option_map};
 ghost use Rattle.std.specs.Iterator.{YieldsFirstBy, YieldsLastBy, item_count};
 ghost use Rattle.column_storage.specs.Bits.{given_bits, optional_values};
+ghost use Rattle.column_storage.specs.Iterators.{bits_left};
 ghost use Rattle.column_storage.specs.Zipped.{zipped_values, zipped_validity};
 
 impl<T: Drop, I: Listed<Item = T>, V: Flags> ZipValidity<T, I, V> {
@@ -32,6 +35,20 @@ impl<T: Drop, I: Listed<Item = T>, V: Flags> ZipValidity<T, I, V> {
             values,
             validity,
             item: PhantomData,
+        }
+    }
+}
+
+impl<'a, T: Drop, I: Listed<Item = T>> ZipValidity<T, I, BitmapIter<'a>> {
+    /// The values of an iterator, each beside its bit of a validity, where one is given.
+    pub fn new_with_validity(values: I, validity: Option<&'a Bitmap>) -> Self
+        requires { IfSome validity (λ bits. length bits.now ≡ length (I.rest values)) }
+        ensures values { zipped_values result ≡ values }
+        ensures validity { option_map bits_left (zipped_validity result) ≡ option_copied validity.entry }
+    {
+        match validity {
+            Some(bits) => ZipValidity::new(values, Some(bits.iter())),
+            None => ZipValidity::new(values, None),
         }
     }
 }
