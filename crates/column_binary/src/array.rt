@@ -1,0 +1,412 @@
+//! The array: its constructors, its readers, and its cheap changes.
+
+ghost use Rattle.std.specs.Prelude.{◌≡◌, ◌+◌, ◌-◌, ◌<◌, ◌≤◌, ◌==◌, not, pos, [], ◌∷◌, true, false, length as list_length, replicate, count_by, option_map, IfSome, None, Some};
+ghost use Rattle.std.specs.Option.{option_copied};
+ghost use Rattle.column_base.specs.Answers.{Gives, Answers, ◌or_else◌};
+ghost use Rattle.column_base.specs.DataTypes.{physical_type};
+ghost use Rattle.column_base.specs.Lists.{sublist};
+ghost use Rattle.column_base.specs.Slots.{slot_at, row_of};
+ghost use Rattle.column_binary.specs.Types.{binary_type, is_binary, type_fault};
+ghost use Rattle.column_binary.specs.Slots.{offset_lists, offset_slots, slot_count, array_fault, sliced_lists, AreSoundLists};
+
+use column_base::{ArrowDataType, Cause, Offset, PhysicalType, PolarsError, Splitable};
+use column_offset::{Offsets, OffsetsBuffer, try_check_offsets_bounds};
+use column_storage::{Bitmap, Buffer, null_count, slice_validity};
+use std::alloc::Global;
+use std::marker::Model;
+
+/// A column of optional byte strings, semantically an immutable `Vec<Option<Vec<u8>>>`.
+///
+/// A slice or a share costs the same whatever the number of slots, but for the flags that a slice counts. The offsets
+/// are sound, the last is at most the number of value bytes, and a validity that is given has a flag for each slot.
+/// Arrow columnar format, "Variable-size Binary Layout".
+#[derive(Drop)]
+pub struct BinaryArray<O: Offset> {
+    offsets: OffsetsBuffer<O>,
+    values: Buffer<u8>,
+    validity: Option<Bitmap>,
+}
+
+impl<O: Offset> Model for BinaryArray<O> {
+    ghost use Rattle.column_binary.specs.Slots.{OffsetLists, offset_lists, AreSoundLists};
+
+    ghost Value = { OffsetLists };
+
+    ghost view = { λ a. offset_lists a.offsets a.values a.validity };
+
+    ghost invariant = { λ a. AreSoundLists (offset_lists a.offsets a.values a.validity) };
+}
+
+// ---- constructors
+
+impl<O: Offset> BinaryArray<O> {
+    /// The column of these lists. Takes no memory.
+    ///
+    /// The first that stands of `OffsetsExceedValues` where the last offset is greater than the number of value bytes,
+    /// `ValidityLength` where a validity is given whose length is not the number of slots, and `WrongDataType` where
+    /// the data type lies in another physical type.
+    pub fn try_new(
+        dtype: ArrowDataType,
+        offsets: OffsetsBuffer<O>,
+        values: Buffer<u8>,
+        validity: Option<Bitmap>,
+    ) -> Result<Self, PolarsError>
+        ensures { let lists = offset_lists offsets values validity in Gives result (array_fault lists or_else type_fault O.IS_LARGE dtype) (λ a. a ≡ lists) }
+    {
+        try_check_offsets_bounds(offsets.as_slice(), values.len())?;
+        if let Some(bits) = &validity {
+            if bits.len() != offsets.len_proxy() {
+                return Err(Cause::ValidityLength.into());
+            }
+        }
+        if !is_binary(dtype, O::IS_LARGE) {
+            return Err(Cause::WrongDataType.into());
+        }
+        Ok(BinaryArray {
+            offsets,
+            values,
+            validity,
+        })
+    }
+
+    /// The same as [`BinaryArray::try_new`], of lists and a data type without a fault.
+    pub fn new(
+        dtype: ArrowDataType,
+        offsets: OffsetsBuffer<O>,
+        values: Buffer<u8>,
+        validity: Option<Bitmap>,
+    ) -> Self
+        requires { array_fault (offset_lists offsets values validity) or_else type_fault O.IS_LARGE dtype ≡ None }
+        ensures { result ≡ offset_lists offsets values validity }
+    {
+        match BinaryArray::try_new(dtype, offsets, values, validity) {
+            Ok(array) => array,
+            Err(_) => unreachable!(),
+        }
+    }
+
+    /// The same as [`BinaryArray::new`], without a look at the lists.
+    #[tactic(auto, using(crate::proofs::SlotsLemmas::fine))]
+    pub fn new_unchecked(
+        _dtype: ArrowDataType,
+        offsets: OffsetsBuffer<O>,
+        values: Buffer<u8>,
+        validity: Option<Bitmap>,
+    ) -> Self
+        requires { array_fault (offset_lists offsets values validity) or_else type_fault O.IS_LARGE _dtype ≡ None }
+        ensures { result ≡ offset_lists offsets values validity }
+    {
+        let _count = offsets.len();
+        BinaryArray {
+            offsets,
+            values,
+            validity,
+        }
+    }
+
+    /// The column without slots.
+    ///
+    /// `NoMemory` where there is none for its one offset.
+    pub fn new_empty(alloc: Global, dtype: ArrowDataType) -> Result<Self, PolarsError>
+        requires { is_binary O.IS_LARGE (physical_type dtype) ≡ true }
+        ensures { Answers result None (λ a. a ≡ offset_lists (pos 0 ∷ []) [] None) }
+    {
+        Ok(BinaryArray {
+            offsets: OffsetsBuffer::new(alloc)?,
+            values: Buffer::new(alloc)?,
+            validity: None,
+        })
+    }
+
+    /// `length` null slots without bytes.
+    ///
+    /// `NoMemory` where there is none for their offsets and flags.
+    pub fn new_null(alloc: Global, dtype: ArrowDataType, length: usize) -> Result<Self, PolarsError>
+        requires { is_binary O.IS_LARGE (physical_type dtype) ≡ true }
+        ensures { Answers result None (λ a. a ≡ offset_lists (replicate (length + 1) (pos 0)) [] (Some (replicate length false))) }
+    {
+        if length == usize::MAX {
+            return Err(PolarsError::NoMemory);
+        }
+        Ok(BinaryArray {
+            offsets: OffsetsBuffer::from_offsets(alloc, Offsets::new_zeroed(alloc, length)?)?,
+            values: Buffer::new(alloc)?,
+            validity: Some(Bitmap::new_zeroed(alloc, length)?),
+        })
+    }
+
+    /// The same column, which shares the memory of this one.
+    ///
+    /// Copies no slot and takes no memory. `NoMemory` where a count of owners is full.
+    pub fn try_clone(&self) -> Result<Self, PolarsError>
+        ensures { Answers result None (λ a. a ≡ self.now) }
+    {
+        Ok(BinaryArray {
+            offsets: self.offsets.try_clone()?,
+            values: self.values.try_clone()?,
+            validity: clone_validity(self.validity.as_ref())?,
+        })
+    }
+
+    /// The data type of byte strings with offsets of this width.
+    pub fn default_dtype() -> ArrowDataType
+        ensures { result ≡ binary_type O.IS_LARGE }
+    {
+        if O::IS_LARGE {
+            ArrowDataType::LargeBinary
+        } else {
+            ArrowDataType::Binary
+        }
+    }
+}
+
+// ---- readers
+
+impl<O: Offset> BinaryArray<O> {
+    /// The number of slots.
+    #[tactic(auto, using(crate::proofs::SlotsLemmas::counts))]
+    pub fn len(&self) -> usize
+        ensures slots { result ≡ list_length (offset_slots self.now) }
+        ensures count { result ≡ slot_count self.now }
+        ensures sound { AreSoundLists self.now }
+    {
+        self.offsets.len_proxy()
+    }
+
+    /// Whether there is no slot.
+    pub fn is_empty(&self) -> bool
+        ensures { result ≡ (slot_count self.now == 0) }
+    {
+        self.len() == 0
+    }
+
+    /// The data type, which is the one of byte strings with offsets of this width.
+    pub fn dtype(&self) -> ArrowDataType
+        ensures { result ≡ binary_type O.IS_LARGE }
+    {
+        Self::default_dtype()
+    }
+
+    /// The offsets, one more than there are slots.
+    pub fn offsets(&self) -> &OffsetsBuffer<O>
+        ensures { result.now ≡ self.now.offsets }
+    {
+        &self.offsets
+    }
+
+    /// The value bytes, also those before the first offset and after the last.
+    pub fn values(&self) -> &Buffer<u8>
+        ensures { result.now ≡ self.now.values }
+    {
+        &self.values
+    }
+
+    /// The validity, where one is given.
+    pub fn validity(&self) -> Option<&Bitmap>
+        ensures { option_map (λ bits. bits.now) result ≡ self.now.flags }
+    {
+        self.validity.as_ref()
+    }
+
+    /// The number of null slots, in constant time.
+    #[tactic(auto, using(crate::proofs::SlotsLemmas::counts))]
+    pub fn null_count(&self) -> usize
+        ensures { result ≡ count_by (λ slot. not slot.valid) (offset_slots self.now) }
+    {
+        let _slots = self.len();
+        null_count(self.validity())
+    }
+
+    /// Whether slot `i` is valid.
+    #[tactic(auto, using(crate::proofs::SlotsLemmas::places))]
+    pub fn is_valid(&self, i: usize) -> bool
+        requires { i < slot_count self.now }
+        ensures { result ≡ (slot_at (offset_slots self.now) i).valid }
+    {
+        match &self.validity {
+            None => true,
+            Some(bits) => bits.get_bit(i),
+        }
+    }
+
+    /// Whether slot `i` is null.
+    pub fn is_null(&self, i: usize) -> bool
+        requires { i < slot_count self.now }
+        ensures { result ≡ not (slot_at (offset_slots self.now) i).valid }
+    {
+        !self.is_valid(i)
+    }
+
+    /// The bytes of slot `i`; a null slot has bytes too.
+    #[tactic(auto, using(crate::proofs::SlotsLemmas::places))]
+    pub fn value(&self, i: usize) -> &[u8]
+        requires { i < slot_count self.now }
+        ensures { result.now ≡ (slot_at (offset_slots self.now) i).bytes }
+    {
+        let (start, end) = self.offsets.start_end(i);
+        &self.values.as_slice()[start..end]
+    }
+
+    /// The same as [`BinaryArray::value`].
+    pub fn value_unchecked(&self, i: usize) -> &[u8]
+        requires { i < slot_count self.now }
+        ensures { result.now ≡ (slot_at (offset_slots self.now) i).bytes }
+    {
+        self.value(i)
+    }
+
+    /// The bytes of slot `i`, or None where it is null.
+    pub fn get(&self, i: usize) -> Option<&[u8]>
+        requires { i < slot_count self.now }
+        ensures { option_map (λ bytes. bytes.now) result ≡ row_of (slot_at (offset_slots self.now) i) }
+    {
+        if self.is_valid(i) {
+            Some(self.value(i))
+        } else {
+            None
+        }
+    }
+
+    /// The lists: the data type, the offsets, the value bytes and the validity. Takes no memory.
+    pub fn into_inner(self) -> (ArrowDataType, OffsetsBuffer<O>, Buffer<u8>, Option<Bitmap>)
+        ensures dtype { result.0 ≡ binary_type O.IS_LARGE }
+        ensures offsets { result.1 ≡ self.offsets }
+        ensures values { result.2 ≡ self.values }
+        ensures flags { result.3 ≡ self.flags }
+    {
+        let BinaryArray {
+            offsets,
+            values,
+            validity,
+        } = self;
+        (Self::default_dtype(), offsets, values, validity)
+    }
+}
+
+// ---- slices
+
+#[tactic(auto, using(crate::proofs::SlotsLemmas::slices), unfolding(crate::specs::Slots::sliced_lists))]
+impl<O: Offset> BinaryArray<O> {
+    /// The `length` slots from slot `offset` on, sharing offsets and value bytes.
+    ///
+    /// Takes no memory. `offset` and `length` count slots. Where a validity is given, the flags of the part or those
+    /// cut off are counted, whichever are fewer; the validity is dropped where all slots of the part are valid.
+    pub fn sliced(self, offset: usize, length: usize) -> Self
+        requires { offset + length ≤ slot_count self }
+        ensures part { result ≡ sliced_lists self offset length }
+        ensures slots { offset_slots result ≡ sublist (offset_slots self) offset length }
+        ensures sound { AreSoundLists result }
+    {
+        let BinaryArray {
+            mut offsets,
+            values,
+            validity,
+        } = self;
+        offsets.slice(offset, length + 1);
+        BinaryArray {
+            offsets,
+            values,
+            validity: slice_validity(validity, offset, length),
+        }
+    }
+
+    /// The same as [`BinaryArray::sliced`].
+    pub fn sliced_unchecked(self, offset: usize, length: usize) -> Self
+        requires { offset + length ≤ slot_count self }
+        ensures part { result ≡ sliced_lists self offset length }
+        ensures slots { offset_slots result ≡ sublist (offset_slots self) offset length }
+        ensures sound { AreSoundLists result }
+    {
+        self.sliced(offset, length)
+    }
+
+    /// Keeps the `length` slots from slot `offset` on, as [`BinaryArray::sliced`] does.
+    pub fn slice(&mut self, offset: usize, length: usize)
+        requires { offset + length ≤ slot_count self.old }
+        ensures { self.new ≡ sliced_lists self.old offset length }
+    {
+        let _count = self.offsets.len();
+        self.offsets.slice(offset, length + 1);
+        self.validity = slice_validity(self.validity.take(), offset, length);
+    }
+
+    /// The same as [`BinaryArray::slice`].
+    pub fn slice_unchecked(&mut self, offset: usize, length: usize)
+        requires { offset + length ≤ slot_count self.old }
+        ensures { self.new ≡ sliced_lists self.old offset length }
+    {
+        self.slice(offset, length);
+    }
+}
+
+impl<O: Offset> Splitable for BinaryArray<O> {
+    ghost use Rattle.std.specs.Prelude.{◌-◌};
+    ghost use Rattle.column_binary.specs.Slots.{slot_count, sliced_lists};
+
+    ghost slot_count = { λ a. slot_count a };
+
+    ghost front = { λ a place. sliced_lists a 0 place };
+
+    ghost back = { λ a place. sliced_lists a place (slot_count a - place) };
+
+    fn check_bound(&self, offset: usize) -> bool {
+        offset <= self.len()
+    }
+
+    fn split_at(&self, offset: usize) -> Result<(Self, Self), PolarsError> {
+        let front = self.try_clone()?.sliced(0, offset);
+        let back = self.try_clone()?.sliced(offset, self.len() - offset);
+        Ok((front, back))
+    }
+}
+
+// ---- other flags
+
+impl<O: Offset> BinaryArray<O> {
+    /// The same bytes beside other flags, or all of them valid where no validity is given. Takes no memory.
+    pub fn with_validity(self, validity: Option<Bitmap>) -> Self
+        requires { IfSome validity (λ bits. list_length bits ≡ slot_count self) }
+        ensures { result ≡ offset_lists self.offsets self.values validity }
+    {
+        let mut array = self;
+        array.set_validity(validity);
+        array
+    }
+
+    /// Puts other flags in place of those that there were, as [`BinaryArray::with_validity`] does.
+    pub fn set_validity(&mut self, validity: Option<Bitmap>)
+        requires { IfSome validity (λ bits. list_length bits ≡ slot_count self.old) }
+        ensures { self.new ≡ offset_lists self.old.offsets self.old.values validity }
+    {
+        self.validity = validity;
+    }
+
+    /// The validity, where one was given. All slots are valid then.
+    pub fn take_validity(&mut self) -> Option<Bitmap>
+        ensures taken { result ≡ self.old.flags }
+        ensures rest { self.new ≡ offset_lists self.old.offsets self.old.values None }
+    {
+        self.validity.take()
+    }
+}
+
+/// Whether a data type is laid out as byte strings with offsets of 32 bits, or of 64 where `is_large`.
+fn is_binary(dtype: ArrowDataType, is_large: bool) -> bool
+    ensures { result ≡ is_binary is_large (physical_type dtype) }
+{
+    match dtype.to_physical_type() {
+        PhysicalType::Binary => !is_large,
+        PhysicalType::LargeBinary => is_large,
+        _ => false,
+    }
+}
+
+/// The same validity, which shares its memory.
+fn clone_validity(validity: Option<&Bitmap>) -> Result<Option<Bitmap>, PolarsError>
+    ensures { Answers result None (λ copy. copy ≡ option_copied validity.entry) }
+{
+    match validity {
+        Some(bits) => Ok(Some(bits.try_clone()?)),
+        None => Ok(None),
+    }
+}

@@ -1,0 +1,71 @@
+//! Going over the slots of an array.
+
+ghost use Rattle.std.specs.Prelude.{◌≡◌, length, slice_get, Some};
+ghost use Rattle.std.specs.List.{filter_map};
+ghost use Rattle.column_base.specs.Slots.{values_of, row_of, rows_of};
+ghost use Rattle.column_binary.specs.Slots.{offset_slots};
+
+use crate::array::BinaryArray;
+use column_base::Offset;
+use column_storage::{
+    ArrayAccessor, ArrayValuesIter, BitmapIter, Buffer, Listed, NonNullValuesIter, Slots,
+    ZipValidity,
+};
+
+/// The bytes of each slot that is left of an array, of null ones too.
+pub type BinaryValueIter<'a, O> = ArrayValuesIter<'a, BinaryArray<O>>;
+
+impl<O: Offset> Slots for BinaryArray<O> {
+    ghost use Rattle.column_base.specs.Slots.{values_of};
+    ghost use Rattle.column_binary.specs.Slots.{offset_slots};
+
+    // seen as a list of bytes
+    type Shown = Buffer<u8>;
+
+    ghost items = { λ a. values_of (offset_slots a) };
+}
+
+#[tactic(auto, using(crate::proofs::SlotsLemmas::values))]
+impl<'a, O: Offset + 'static> ArrayAccessor<'a> for BinaryArray<O> {
+    type Item = &'a [u8];
+
+    ghost shown = { λ bytes. bytes.now };
+
+    fn value_unchecked(&'a self, index: usize) -> &'a [u8] {
+        let _slots = BinaryArray::len(self);
+        self.value(index)
+    }
+
+    fn len(&self) -> usize
+        ensures { result ≡ length (values_of (offset_slots self.now)) }
+    {
+        BinaryArray::len(self)
+    }
+}
+
+#[tactic(auto, using(crate::proofs::SlotsLemmas::values))]
+impl<O: Offset + 'static> BinaryArray<O> {
+    /// The rows, first to last, from both ends: the bytes of each slot, or None where it is null.
+    pub fn iter(&self) -> ZipValidity<&[u8], BinaryValueIter<'_, O>, BitmapIter<'_>>
+        ensures rows { ⟦<ZipValidity<&'static [u8], ArrayValuesIter<'static, BinaryArray<O>>, BitmapIter<'static>> as Listed>⟧.rest result ≡ rows_of (offset_slots self.now) }
+        ensures ready { ⟦<ZipValidity<&'static [u8], ArrayValuesIter<'static, BinaryArray<O>>, BitmapIter<'static>> as Iterator>⟧.can_next result }
+    {
+        let _slots = BinaryArray::len(self);
+        ZipValidity::new_with_validity(self.values_iter(), self.validity())
+    }
+
+    /// The bytes of each slot, first to last, from both ends; a null slot has bytes too.
+    pub fn values_iter(&self) -> BinaryValueIter<'_, O>
+        ensures { ⟦<ArrayValuesIter<'static, BinaryArray<O>> as Listed>⟧.rest result ≡ values_of (offset_slots self.now) }
+    {
+        ArrayValuesIter::new(self)
+    }
+
+    /// The bytes of each valid slot, first to last.
+    pub fn non_null_values_iter(&self) -> NonNullValuesIter<'_, BinaryArray<O>>
+        ensures { ⟦<NonNullValuesIter<'static, BinaryArray<O>> as Listed>⟧.rest result ≡ filter_map row_of (offset_slots self.now) }
+    {
+        let _slots = BinaryArray::len(self);
+        NonNullValuesIter::new(self, self.validity())
+    }
+}

@@ -1,0 +1,2 @@
+//! Texts.
+#![tactic(auto)]
