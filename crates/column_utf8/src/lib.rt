@@ -1,2 +1,13 @@
-//! Texts.
+//! Columns of texts with offsets, of 32 bits or of 64. Arrow columnar format, "Variable-size Binary Layout".
 #![tactic(auto)]
+
+mod array;
+mod convert;
+mod iterator;
+
+pub use array::Utf8Array;
+pub use convert::try_into_utf8;
+pub use iterator::Utf8ValuesIter;
+
+#[cfg(test)]
+mod tests;

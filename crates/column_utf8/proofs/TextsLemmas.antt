@@ -1,0 +1,154 @@
+-- Laws of lists whose slots are texts.
+use Rattle.std.proofs.Common.{◌≡◌, ℕ, zero, suc, ◌+◌, ◌-◌, ◌<◌, ◌≤◌, ◌≤ℤ◌, ℤ, pos, Bool, true, false, List, [], ◌∷◌, length, take, drop, Option, Some, None, refl, sym, ◌∙◌, ap, arith}
+use Rattle.std.specs.Prelude.{int_lt, slice_range}
+use Rattle.std.proofs.Math.Seq.{drop-nil, take-nil}
+use Rattle.std.proofs.lemmas.Int.{ints}
+use Rattle.std.proofs.lemmas.Bool.{and_parts}
+use Rattle.column_base.specs.declared.errors.Cause.{Cause}
+use Rattle.column_base.specs.declared.errors.Cause.TheVariants.{OffsetsExceedValues}
+use Rattle.column_base.specs.Answers.{cause_if, ◌or_else◌}
+use Rattle.column_base.specs.Kinds.{Slot}
+use Rattle.column_base.specs.Slots.{slot_at, values_of}
+use Rattle.column_base.specs.Utf8.{is_well_formed_utf8, IsWellFormedUtf8}
+use Rattle.column_base.proofs.ListsLemmas.{map-sublist}
+use Rattle.column_offset.specs.Offsets.{nat_of, last_of, bounds_fault}
+use Rattle.column_offset.specs.Text.{pieces, are_well_formed_utf8, texts_fault, text_fault}
+use Rattle.column_offset.proofs.TextLemmas.{all_where_no_fault}
+use Rattle.column_binary.specs.Types.{binary_type, type_fault}
+use Rattle.column_binary.specs.Slots.{OffsetLists, slot_count, offset_slots, flags_fault, array_fault, AreSoundLists, sliced_lists}
+use Rattle.column_binary.proofs.SlotsLemmas.{values_of-offset_slots, offset_slots-sliced, AreSoundLists-sliced, length-offset_slots}
+use Rattle.column_utf8.specs.Texts.{text_array_fault, AreSoundTexts}
+
+-- ---- a text at a place
+
+text_in : (slots : List Slot) (i : ℕ) → are_well_formed_utf8 (values_of slots) ≡ true → i < length slots → IsWellFormedUtf8 (slot_at slots i).bytes
+text_in [] i all within = absurd (omega arith)
+text_in (slot ∷ slots) zero all within = (and_parts (is_well_formed_utf8 slot.bytes) (are_well_formed_utf8 (values_of slots)) all).0
+text_in (slot ∷ slots) (suc i) all within = text_in slots i (and_parts (is_well_formed_utf8 slot.bytes) (are_well_formed_utf8 (values_of slots)) all).1 (omega arith)
+
+pub text_at : (lists : OffsetLists) (i : ℕ) → AreSoundTexts lists → i < slot_count lists → IsWellFormedUtf8 (slot_at (offset_slots lists) i).bytes
+text_at lists i sound within =
+    let count = length-offset_slots lists sound.sound in
+    text_in (offset_slots lists) i sound.texts (omega arith)
+
+-- ---- slices
+
+texts-drop : (from : ℕ) (texts : List (List ℕ)) → are_well_formed_utf8 texts ≡ true → are_well_formed_utf8 (drop from texts) ≡ true
+texts-drop zero texts all = all
+texts-drop (suc from) [] all = refl
+texts-drop (suc from) (text ∷ texts) all = texts-drop from texts (and_parts (is_well_formed_utf8 text) (are_well_formed_utf8 texts) all).1
+
+texts-take : (n : ℕ) (texts : List (List ℕ)) → are_well_formed_utf8 texts ≡ true → are_well_formed_utf8 (take n texts) ≡ true
+texts-take zero texts all = refl
+texts-take (suc n) [] all = refl
+texts-take (suc n) (text ∷ texts) all =
+    let parts = and_parts (is_well_formed_utf8 text) (are_well_formed_utf8 texts) all in
+    let rest = texts-take n texts parts.1 in
+    rw (parts.0, rest) refl
+
+pub AreSoundTexts-sliced : (lists : OffsetLists) (from n : ℕ) → AreSoundTexts lists → from + n ≤ slot_count lists → AreSoundTexts (sliced_lists lists from n)
+AreSoundTexts-sliced lists from n sound within = record {
+  sound = AreSoundLists-sliced lists from n sound.sound within;
+  texts =
+      ap (λ (slots : List Slot). are_well_formed_utf8 (values_of slots)) (offset_slots-sliced lists from n sound.sound within)
+      ∙ ap are_well_formed_utf8 (map-sublist (λ (slot : Slot). slot.bytes) (offset_slots lists) from n)
+      ∙ texts-take n (drop from (values_of (offset_slots lists))) (texts-drop from (values_of (offset_slots lists)) sound.texts);
+}
+
+-- ---- other flags
+
+-- the texts stay, whatever flags stand beside them
+pub AreSoundTexts-flags : (lists other : OffsetLists) → AreSoundTexts lists → AreSoundLists other → other.offsets ≡ lists.offsets → other.values ≡ lists.values → AreSoundTexts other
+AreSoundTexts-flags lists other sound flagged offsets values = record {
+  sound = flagged;
+  texts =
+      ap are_well_formed_utf8 (values_of-offset_slots other flagged)
+      ∙ ap (λ (os : List ℤ). are_well_formed_utf8 (pieces os other.values)) offsets
+      ∙ ap (λ (vs : List ℕ). are_well_formed_utf8 (pieces lists.offsets vs)) values
+      ∙ ap are_well_formed_utf8 (sym (values_of-offset_slots lists sound.sound))
+      ∙ sound.texts;
+}
+
+-- ---- lists without a fault
+
+first_none : (first second : Option Cause) → (first or_else second) ≡ None → (first ≡ None) × (second ≡ None)
+first_none None second none = (refl, none)
+first_none (Some cause) second none = absurd (cc)
+
+none_after : (fault : Option Cause) → (fault or_else None) ≡ fault
+none_after None = refl
+none_after (Some cause) = refl
+
+-- the array's own data type is no fault
+own_type : (large : Bool) → type_fault large (binary_type large) ≡ None
+own_type true = refl
+own_type false = refl
+
+within_bounds : (last : ℤ) (count : ℕ) → last ≤ℤ pos count → cause_if (int_lt (pos count) last) OffsetsExceedValues ≡ None
+within_bounds last count within = let test : int_lt (pos count) last ≡ false = grind (arith, ints) in rw test refl
+
+-- the fault of texts is that of the slots, where the offsets lie within the values
+pub text_fault_is : (lists : OffsetLists) → AreSoundLists lists → text_fault lists.offsets lists.values ≡ texts_fault (values_of (offset_slots lists))
+unfolding text_fault
+text_fault_is lists sound =
+    ap (λ (first : Option Cause). first or_else texts_fault (pieces lists.offsets lists.values)) (within_bounds (last_of lists.offsets) (length lists.values) sound.within)
+    ∙ ap texts_fault (sym (values_of-offset_slots lists sound))
+
+pub texts_where_none : (lists : OffsetLists) → AreSoundLists lists → texts_fault (values_of (offset_slots lists)) ≡ None → AreSoundTexts lists
+texts_where_none lists sound none = record { sound = sound; texts = all_where_no_fault (values_of (offset_slots lists)) none }
+
+pub texts_where_fine : (lists : OffsetLists) → AreSoundLists lists → text_fault lists.offsets lists.values ≡ None → AreSoundTexts lists
+texts_where_fine lists sound none = texts_where_none lists sound (sym (text_fault_is lists sound) ∙ none)
+
+bounds_where_fine : (lists : OffsetLists) → text_fault lists.offsets lists.values ≡ None → bounds_fault lists.offsets (length lists.values) ≡ None
+unfolding text_fault
+bounds_where_fine lists none = (first_none (bounds_fault lists.offsets (length lists.values)) (texts_fault (pieces lists.offsets lists.values)) none).0
+
+-- where the slots are texts, the array of byte strings has the fault of the flags
+array_fault_is : (lists : OffsetLists) (large : Bool) → text_fault lists.offsets lists.values ≡ None → (array_fault lists or_else type_fault large (binary_type large)) ≡ flags_fault (slot_count lists) lists.flags
+array_fault_is lists large none =
+    ap (λ (type : Option Cause). array_fault lists or_else type) (own_type large)
+    ∙ none_after (array_fault lists)
+    ∙ ap (λ (first : Option Cause). first or_else flags_fault (slot_count lists) lists.flags) (bounds_where_fine lists none)
+
+pub array_refused : (lists : OffsetLists) (large : Bool) (type : Option Cause) (cause : Cause) → text_fault lists.offsets lists.values ≡ None → (array_fault lists or_else type_fault large (binary_type large)) ≡ Some cause → (text_array_fault lists or_else type) ≡ Some cause
+array_refused lists large type cause none refused =
+    let flags : flags_fault (slot_count lists) lists.flags ≡ Some cause = sym (array_fault_is lists large none) ∙ refused in
+    ap (λ (first : Option Cause). first or_else flags_fault (slot_count lists) lists.flags or_else type) none
+    ∙ ap (λ (second : Option Cause). second or_else type) flags
+
+pub array_fine : (lists : OffsetLists) (large : Bool) (type : Option Cause) → (text_array_fault lists or_else type) ≡ None → (array_fault lists or_else type_fault large (binary_type large)) ≡ None
+array_fine lists large type none =
+    let parts = first_none (text_fault lists.offsets lists.values) (flags_fault (slot_count lists) lists.flags) (first_none (text_array_fault lists) type none).0 in
+    array_fault_is lists large parts.0 ∙ parts.1
+
+pub texts_fine : (lists : OffsetLists) (type : Option Cause) → AreSoundLists lists → (text_array_fault lists or_else type) ≡ None → AreSoundTexts lists
+texts_fine lists type sound none =
+    let parts = first_none (text_fault lists.offsets lists.values) (flags_fault (slot_count lists) lists.flags) (first_none (text_array_fault lists) type none).0 in
+    texts_where_fine lists sound parts.0
+
+-- ---- slots without bytes
+
+no_bytes : (offsets : List ℤ) → are_well_formed_utf8 (pieces offsets []) ≡ true
+no_bytes [] = refl
+no_bytes (start ∷ []) = refl
+no_bytes (start ∷ end ∷ offsets) =
+    let none : slice_range {X = ℕ} [] (nat_of start) (nat_of end) ≡ [] = ap (take (nat_of end - nat_of start)) (drop-nil (nat_of start)) ∙ take-nil (nat_of end - nat_of start) in
+    rw none (no_bytes (end ∷ offsets))
+
+pub empty_texts : (lists : OffsetLists) → AreSoundLists lists → lists.values ≡ [] → AreSoundTexts lists
+empty_texts lists sound none = record {
+  sound = sound;
+  texts =
+      ap are_well_formed_utf8 (values_of-offset_slots lists sound)
+      ∙ ap (λ (values : List ℕ). are_well_formed_utf8 (pieces lists.offsets values)) none
+      ∙ no_bytes lists.offsets;
+}
+
+pub ruleset places = (text_at)
+
+pub ruleset slices = (AreSoundTexts-sliced)
+
+pub ruleset flags = (AreSoundTexts-flags)
+
+pub ruleset texts = (texts_where_none)

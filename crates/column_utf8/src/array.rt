@@ -1,0 +1,392 @@
+//! The array: its constructors, its readers, and its cheap changes.
+
+ghost use Rattle.std.specs.Prelude.{◌≡◌, ◌+◌, ◌-◌, ◌<◌, ◌≤◌, ◌==◌, not, pos, [], ◌∷◌, true, false, length as list_length, replicate, count_by, option_map, IfSome, None, Some};
+ghost use Rattle.column_base.specs.Answers.{Gives, Answers, ◌or_else◌};
+ghost use Rattle.column_base.specs.DataTypes.{physical_type};
+ghost use Rattle.column_base.specs.Lists.{sublist};
+ghost use Rattle.column_base.specs.Slots.{slot_at, row_of};
+ghost use Rattle.column_binary.specs.Slots.{offset_lists, offset_slots, slot_count, sliced_lists};
+ghost use Rattle.column_utf8.specs.Types.{text_type, is_text, type_fault};
+ghost use Rattle.column_utf8.specs.Texts.{text_array_fault, AreSoundTexts};
+
+use column_base::{ArrowDataType, Cause, Offset, PhysicalType, PolarsError, Splitable, text_of};
+use column_binary::BinaryArray;
+use column_offset::{OffsetsBuffer, try_check_utf8};
+use column_storage::{Bitmap, Buffer};
+use std::alloc::Global;
+use std::marker::Model;
+
+/// A column of optional texts, semantically an immutable `Vec<Option<String>>`.
+///
+/// A slice or a share costs the same whatever the number of slots, but for the flags that a slice counts. The offsets
+/// are sound, the last is at most the number of value bytes, each slot by itself is UTF-8, a null one too, and a
+/// validity that is given has a flag for each slot. Arrow columnar format, "Variable-size Binary Layout"; Unicode,
+/// table 3-7.
+#[derive(Drop)]
+pub struct Utf8Array<O: Offset> {
+    pub(crate) array: BinaryArray<O>,
+}
+
+impl<O: Offset> Model for Utf8Array<O> {
+    ghost use Rattle.column_binary.specs.Slots.{OffsetLists};
+    ghost use Rattle.column_utf8.specs.Texts.{AreSoundTexts};
+
+    ghost Value = { OffsetLists };
+
+    ghost view = { λ a. a.array };
+
+    ghost invariant = { λ a. AreSoundTexts a.array };
+}
+
+// ---- constructors
+
+impl<O: Offset> Utf8Array<O> {
+    /// The column of these lists. One pass over the slots, with no memory.
+    ///
+    /// The first that stands of `OffsetsExceedValues` where the last offset is greater than the number of value bytes,
+    /// `InvalidUtf8` where the bytes of all slots are not UTF-8 end to end, `CharBoundary` where some slot by itself is
+    /// not, `ValidityLength` where a validity is given whose length is not the number of slots, and `WrongDataType`
+    /// where the data type lies in another physical type. Null slots are looked at too; bytes before the first offset
+    /// and after the last are not.
+    pub fn try_new(
+        dtype: ArrowDataType,
+        offsets: OffsetsBuffer<O>,
+        values: Buffer<u8>,
+        validity: Option<Bitmap>,
+    ) -> Result<Self, PolarsError>
+        ensures { let lists = offset_lists offsets values validity in Gives result (text_array_fault lists or_else type_fault O.IS_LARGE dtype) (λ a. a ≡ lists) }
+    {
+        try_check_utf8(offsets.as_slice(), values.as_slice())?;
+        let array = BinaryArray::try_new(
+            BinaryArray::<O>::default_dtype(),
+            offsets,
+            values,
+            validity,
+        )?;
+        let _slots = array.len();
+        if !is_text(dtype, O::IS_LARGE) {
+            return Err(Cause::WrongDataType.into());
+        }
+        Ok(Utf8Array::of(array))
+    }
+
+    /// The same as [`Utf8Array::try_new`], of lists and a data type without a fault.
+    pub fn new(
+        dtype: ArrowDataType,
+        offsets: OffsetsBuffer<O>,
+        values: Buffer<u8>,
+        validity: Option<Bitmap>,
+    ) -> Self
+        requires { text_array_fault (offset_lists offsets values validity) or_else type_fault O.IS_LARGE dtype ≡ None }
+        ensures { result ≡ offset_lists offsets values validity }
+    {
+        match Utf8Array::try_new(dtype, offsets, values, validity) {
+            Ok(array) => array,
+            Err(_) => unreachable!(),
+        }
+    }
+
+    /// The same as [`Utf8Array::new`], without a look at the lists.
+    pub fn new_unchecked(
+        _dtype: ArrowDataType,
+        offsets: OffsetsBuffer<O>,
+        values: Buffer<u8>,
+        validity: Option<Bitmap>,
+    ) -> Self
+        requires { text_array_fault (offset_lists offsets values validity) or_else type_fault O.IS_LARGE _dtype ≡ None }
+        ensures { result ≡ offset_lists offsets values validity }
+    {
+        let array = BinaryArray::new_unchecked(
+            BinaryArray::<O>::default_dtype(),
+            offsets,
+            values,
+            validity,
+        );
+        let _slots = array.len();
+        Utf8Array::of(array)
+    }
+
+    /// The column without slots.
+    ///
+    /// `NoMemory` where there is none for its one offset.
+    pub fn new_empty(alloc: Global, dtype: ArrowDataType) -> Result<Self, PolarsError>
+        requires { is_text O.IS_LARGE (physical_type dtype) ≡ true }
+        ensures { Answers result None (λ a. a ≡ offset_lists (pos 0 ∷ []) [] None) }
+    {
+        let array = BinaryArray::new_empty(alloc, BinaryArray::<O>::default_dtype())?;
+        let _slots = array.len();
+        Ok(Utf8Array::of(array))
+    }
+
+    /// `length` null slots without bytes.
+    ///
+    /// `NoMemory` where there is none for their offsets and flags.
+    pub fn new_null(alloc: Global, dtype: ArrowDataType, length: usize) -> Result<Self, PolarsError>
+        requires { is_text O.IS_LARGE (physical_type dtype) ≡ true }
+        ensures { Answers result None (λ a. a ≡ offset_lists (replicate (length + 1) (pos 0)) [] (Some (replicate length false))) }
+    {
+        let array = BinaryArray::new_null(alloc, BinaryArray::<O>::default_dtype(), length)?;
+        let _slots = array.len();
+        Ok(Utf8Array::of(array))
+    }
+
+    /// The same column, which shares the memory of this one.
+    ///
+    /// Copies no slot and takes no memory. `NoMemory` where a count of owners is full.
+    pub fn try_clone(&self) -> Result<Self, PolarsError>
+        ensures { Answers result None (λ a. a ≡ self.now) }
+    {
+        let array = self.array.try_clone()?;
+        Ok(Utf8Array::of(array))
+    }
+
+    /// The data type of texts with offsets of this width.
+    pub fn default_dtype() -> ArrowDataType
+        ensures { result ≡ text_type O.IS_LARGE }
+    {
+        if O::IS_LARGE {
+            ArrowDataType::LargeUtf8
+        } else {
+            ArrowDataType::Utf8
+        }
+    }
+
+    /// Byte strings each of which is UTF-8, as texts.
+    pub(crate) fn of(array: BinaryArray<O>) -> Self
+        requires { AreSoundTexts array }
+        ensures same { result ≡ array }
+    {
+        Utf8Array { array }
+    }
+}
+
+// ---- readers
+
+impl<O: Offset> Utf8Array<O> {
+    /// The number of slots.
+    pub fn len(&self) -> usize
+        ensures slots { result ≡ list_length (offset_slots self.now) }
+        ensures count { result ≡ slot_count self.now }
+        ensures sound { AreSoundTexts self.now }
+    {
+        self.array.len()
+    }
+
+    /// Whether there is no slot.
+    pub fn is_empty(&self) -> bool
+        ensures { result ≡ (slot_count self.now == 0) }
+    {
+        self.array.is_empty()
+    }
+
+    /// The data type, which is the one of texts with offsets of this width.
+    pub fn dtype(&self) -> ArrowDataType
+        ensures { result ≡ text_type O.IS_LARGE }
+    {
+        Self::default_dtype()
+    }
+
+    /// The offsets, one more than there are slots.
+    pub fn offsets(&self) -> &OffsetsBuffer<O>
+        ensures { result.now ≡ self.now.offsets }
+    {
+        self.array.offsets()
+    }
+
+    /// The value bytes, also those before the first offset and after the last.
+    pub fn values(&self) -> &Buffer<u8>
+        ensures { result.now ≡ self.now.values }
+    {
+        self.array.values()
+    }
+
+    /// The validity, where one is given.
+    pub fn validity(&self) -> Option<&Bitmap>
+        ensures { option_map (λ bits. bits.now) result ≡ self.now.flags }
+    {
+        self.array.validity()
+    }
+
+    /// The number of null slots, in constant time.
+    pub fn null_count(&self) -> usize
+        ensures { result ≡ count_by (λ slot. not slot.valid) (offset_slots self.now) }
+    {
+        self.array.null_count()
+    }
+
+    /// Whether slot `i` is valid.
+    pub fn is_valid(&self, i: usize) -> bool
+        requires { i < slot_count self.now }
+        ensures { result ≡ (slot_at (offset_slots self.now) i).valid }
+    {
+        self.array.is_valid(i)
+    }
+
+    /// Whether slot `i` is null.
+    pub fn is_null(&self, i: usize) -> bool
+        requires { i < slot_count self.now }
+        ensures { result ≡ not (slot_at (offset_slots self.now) i).valid }
+    {
+        self.array.is_null(i)
+    }
+
+    /// The text of slot `i`; a null slot has a text too.
+    #[tactic(auto, using(crate::proofs::TextsLemmas::places))]
+    pub fn value(&self, i: usize) -> &str
+        requires { i < slot_count self.now }
+        ensures { result.now ≡ (slot_at (offset_slots self.now) i).bytes }
+    {
+        let _slots = self.len();
+        text_of(self.array.value(i))
+    }
+
+    /// The same as [`Utf8Array::value`].
+    pub fn value_unchecked(&self, i: usize) -> &str
+        requires { i < slot_count self.now }
+        ensures { result.now ≡ (slot_at (offset_slots self.now) i).bytes }
+    {
+        self.value(i)
+    }
+
+    /// The text of slot `i`, or None where it is null.
+    pub fn get(&self, i: usize) -> Option<&str>
+        requires { i < slot_count self.now }
+        ensures { option_map (λ text. text.now) result ≡ row_of (slot_at (offset_slots self.now) i) }
+    {
+        if self.is_valid(i) {
+            Some(self.value(i))
+        } else {
+            None
+        }
+    }
+
+    /// The lists: the data type, the offsets, the value bytes and the validity. Takes no memory.
+    pub fn into_inner(self) -> (ArrowDataType, OffsetsBuffer<O>, Buffer<u8>, Option<Bitmap>)
+        ensures dtype { result.0 ≡ text_type O.IS_LARGE }
+        ensures offsets { result.1 ≡ self.offsets }
+        ensures values { result.2 ≡ self.values }
+        ensures flags { result.3 ≡ self.flags }
+    {
+        let Utf8Array { array } = self;
+        let (_, offsets, values, validity) = array.into_inner();
+        (Self::default_dtype(), offsets, values, validity)
+    }
+
+    /// The same slots as byte strings, lent.
+    pub(crate) fn as_binary(&self) -> &BinaryArray<O>
+        ensures { result.now ≡ self.now }
+    {
+        &self.array
+    }
+}
+
+// ---- slices
+
+#[tactic(auto, using(crate::proofs::TextsLemmas::slices))]
+impl<O: Offset> Utf8Array<O> {
+    /// The `length` slots from slot `offset` on, sharing offsets and value bytes.
+    ///
+    /// Takes no memory. `offset` and `length` count slots. Where a validity is given, the flags of the part or those
+    /// cut off are counted, whichever are fewer; the validity is dropped where all slots of the part are valid.
+    pub fn sliced(self, offset: usize, length: usize) -> Self
+        requires { offset + length ≤ slot_count self }
+        ensures part { result ≡ sliced_lists self offset length }
+        ensures slots { offset_slots result ≡ sublist (offset_slots self) offset length }
+        ensures sound { AreSoundTexts result }
+    {
+        let Utf8Array { array } = self;
+        Utf8Array::of(array.sliced(offset, length))
+    }
+
+    /// The same as [`Utf8Array::sliced`].
+    pub fn sliced_unchecked(self, offset: usize, length: usize) -> Self
+        requires { offset + length ≤ slot_count self }
+        ensures part { result ≡ sliced_lists self offset length }
+        ensures slots { offset_slots result ≡ sublist (offset_slots self) offset length }
+        ensures sound { AreSoundTexts result }
+    {
+        self.sliced(offset, length)
+    }
+
+    /// Keeps the `length` slots from slot `offset` on, as [`Utf8Array::sliced`] does.
+    pub fn slice(&mut self, offset: usize, length: usize)
+        requires { offset + length ≤ slot_count self.old }
+        ensures { self.new ≡ sliced_lists self.old offset length }
+    {
+        self.array.slice(offset, length);
+    }
+
+    /// The same as [`Utf8Array::slice`].
+    pub fn slice_unchecked(&mut self, offset: usize, length: usize)
+        requires { offset + length ≤ slot_count self.old }
+        ensures { self.new ≡ sliced_lists self.old offset length }
+    {
+        self.slice(offset, length);
+    }
+}
+
+impl<O: Offset> Splitable for Utf8Array<O> {
+    ghost use Rattle.std.specs.Prelude.{◌-◌};
+    ghost use Rattle.column_binary.specs.Slots.{slot_count, sliced_lists};
+
+    ghost slot_count = { λ a. slot_count a };
+
+    ghost front = { λ a place. sliced_lists a 0 place };
+
+    ghost back = { λ a place. sliced_lists a place (slot_count a - place) };
+
+    fn check_bound(&self, offset: usize) -> bool {
+        offset <= self.len()
+    }
+
+    fn split_at(&self, offset: usize) -> Result<(Self, Self), PolarsError> {
+        let front = self.try_clone()?.sliced(0, offset);
+        let back = self.try_clone()?.sliced(offset, self.len() - offset);
+        Ok((front, back))
+    }
+}
+
+// ---- other flags
+
+#[tactic(auto, using(crate::proofs::TextsLemmas::flags))]
+impl<O: Offset> Utf8Array<O> {
+    /// The same bytes beside other flags, or all of them valid where no validity is given. Takes no memory.
+    pub fn with_validity(self, validity: Option<Bitmap>) -> Self
+        requires { IfSome validity (λ bits. list_length bits ≡ slot_count self) }
+        ensures { result ≡ offset_lists self.offsets self.values validity }
+    {
+        let mut array = self;
+        array.set_validity(validity);
+        array
+    }
+
+    /// Puts other flags in place of those that there were, as [`Utf8Array::with_validity`] does.
+    pub fn set_validity(&mut self, validity: Option<Bitmap>)
+        requires { IfSome validity (λ bits. list_length bits ≡ slot_count self.old) }
+        ensures { self.new ≡ offset_lists self.old.offsets self.old.values validity }
+    {
+        self.array.set_validity(validity);
+        let _slots = self.array.len();
+    }
+
+    /// The validity, where one was given. All slots are valid then.
+    pub fn take_validity(&mut self) -> Option<Bitmap>
+        ensures taken { result ≡ self.old.flags }
+        ensures rest { self.new ≡ offset_lists self.old.offsets self.old.values None }
+    {
+        let validity = self.array.take_validity();
+        let _slots = self.array.len();
+        validity
+    }
+}
+
+/// Whether a data type is laid out as texts with offsets of 32 bits, or of 64 where `is_large`.
+fn is_text(dtype: ArrowDataType, is_large: bool) -> bool
+    ensures { result ≡ is_text is_large (physical_type dtype) }
+{
+    match dtype.to_physical_type() {
+        PhysicalType::Utf8 => !is_large,
+        PhysicalType::LargeUtf8 => is_large,
+        _ => false,
+    }
+}

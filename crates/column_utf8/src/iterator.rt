@@ -1,0 +1,71 @@
+//! Going over the slots of an array.
+
+ghost use Rattle.std.specs.Prelude.{◌≡◌, length};
+ghost use Rattle.std.specs.List.{filter_map};
+ghost use Rattle.column_base.specs.Slots.{values_of, row_of, rows_of};
+ghost use Rattle.column_binary.specs.Slots.{offset_slots};
+
+use crate::array::Utf8Array;
+use column_base::Offset;
+use column_storage::{
+    ArrayAccessor, ArrayValuesIter, BitmapIter, Buffer, Listed, NonNullValuesIter, Slots,
+    ZipValidity,
+};
+
+/// The text of each slot that is left of an array, of null ones too.
+pub type Utf8ValuesIter<'a, O> = ArrayValuesIter<'a, Utf8Array<O>>;
+
+impl<O: Offset> Slots for Utf8Array<O> {
+    ghost use Rattle.column_base.specs.Slots.{values_of};
+    ghost use Rattle.column_binary.specs.Slots.{offset_slots};
+
+    // seen as a list of bytes
+    type Shown = Buffer<u8>;
+
+    ghost items = { λ a. values_of (offset_slots a) };
+}
+
+#[tactic(auto, using(column_binary::proofs::SlotsLemmas::values))]
+impl<'a, O: Offset + 'static> ArrayAccessor<'a> for Utf8Array<O> {
+    type Item = &'a str;
+
+    ghost shown = { λ text. text.now };
+
+    fn value_unchecked(&'a self, index: usize) -> &'a str {
+        let _slots = Utf8Array::len(self);
+        self.value(index)
+    }
+
+    fn len(&self) -> usize
+        ensures { result ≡ length (values_of (offset_slots self.now)) }
+    {
+        Utf8Array::len(self)
+    }
+}
+
+#[tactic(auto, using(column_binary::proofs::SlotsLemmas::values))]
+impl<O: Offset + 'static> Utf8Array<O> {
+    /// The rows, first to last, from both ends: the text of each slot, or None where it is null.
+    pub fn iter(&self) -> ZipValidity<&str, Utf8ValuesIter<'_, O>, BitmapIter<'_>>
+        ensures rows { ⟦<ZipValidity<&'static str, ArrayValuesIter<'static, Utf8Array<O>>, BitmapIter<'static>> as Listed>⟧.rest result ≡ rows_of (offset_slots self.now) }
+        ensures ready { ⟦<ZipValidity<&'static str, ArrayValuesIter<'static, Utf8Array<O>>, BitmapIter<'static>> as Iterator>⟧.can_next result }
+    {
+        let _slots = Utf8Array::len(self);
+        ZipValidity::new_with_validity(self.values_iter(), self.validity())
+    }
+
+    /// The text of each slot, first to last, from both ends; a null slot has a text too.
+    pub fn values_iter(&self) -> Utf8ValuesIter<'_, O>
+        ensures { ⟦<ArrayValuesIter<'static, Utf8Array<O>> as Listed>⟧.rest result ≡ values_of (offset_slots self.now) }
+    {
+        ArrayValuesIter::new(self)
+    }
+
+    /// The text of each valid slot, first to last.
+    pub fn non_null_values_iter(&self) -> NonNullValuesIter<'_, Utf8Array<O>>
+        ensures { ⟦<NonNullValuesIter<'static, Utf8Array<O>> as Listed>⟧.rest result ≡ filter_map row_of (offset_slots self.now) }
+    {
+        let _slots = Utf8Array::len(self);
+        NonNullValuesIter::new(self, self.validity())
+    }
+}
