@@ -69,3 +69,17 @@ impl<O: Offset + 'static> BinaryArray<O> {
         NonNullValuesIter::new(self, self.validity())
     }
 }
+
+impl<'a, O: Offset + 'static> IntoIterator for &'a BinaryArray<O> {
+    type Item = Option<&'a [u8]>;
+
+    type IntoIter = ZipValidity<&'a [u8], BinaryValueIter<'a, O>, BitmapIter<'a>>;
+
+    // the rows, first to last
+    ghost into_iter_gives = { λ array it. (⟦<ZipValidity<&'a [u8], ArrayValuesIter<'a, BinaryArray<O>>, BitmapIter<'a>> as Listed>⟧.rest it ≡ rows_of (offset_slots array.now))
+        × ⟦<ZipValidity<&'a [u8], ArrayValuesIter<'a, BinaryArray<O>>, BitmapIter<'a>> as Iterator>⟧.can_next it };
+
+    fn into_iter(self) -> ZipValidity<&'a [u8], BinaryValueIter<'a, O>, BitmapIter<'a>> {
+        self.iter()
+    }
+}
