@@ -16,7 +16,8 @@ use std::marker::Model;
 /// memory.
 ///
 /// It keeps the number of its bits that are not set. A share takes constant time. A slice reads no more bits than it
-/// cuts off, so that a chain of slices reads no bit twice. Arrow columnar format, "Validity bitmaps".
+/// cuts off, so that a chain of slices reads no more bits than the first list has. Arrow columnar format, "Validity
+/// bitmaps".
 #[derive(Drop)]
 pub struct Bitmap {
     bits: Buffer<bool>,
@@ -216,11 +217,15 @@ impl Bitmap {
     }
 }
 
-// The number of bits that are not set, in one pass.
-fn count_unset(bits: &[bool]) -> usize
+// The number of bits that are not set, in one pass without branches.
+pub(crate) fn count_unset(bits: &[bool]) -> usize
     ensures { result ≡ count_by not bits.now }
 {
-    bits.iter().filter(|bit| !**bit).count()
+    let mut unset = 0;
+    for bit in bits {
+        unset += usize::from(!*bit);
+    }
+    unset
 }
 
 // The number of bits that are not set among `length` bits of one value.

@@ -5,7 +5,7 @@ ghost use Rattle.column_base.specs.Answers.{Answers};
 ghost use Rattle.column_storage.specs.Bits.{kept_flags};
 ghost use Rattle.column_storage.specs.Iterators.{bits_left};
 
-use crate::bitmap::Bitmap;
+use crate::bitmap::{Bitmap, count_unset};
 use crate::bitmap_iter::BitmapIter;
 use column_base::PolarsError;
 use std::alloc::Global;
@@ -145,17 +145,18 @@ impl MutableBitmap {
     }
 
     /// The number of bits that are set, in linear time.
+    #[tactic(auto, using(crate::proofs::CountsLemmas::counts))]
     pub fn set_bits(&self) -> usize
         ensures { result ≡ count_by (λ b. b) self.now.bits }
     {
-        self.values.iter().filter(|bit| **bit).count()
+        self.values.len() - count_unset(&self.values)
     }
 
     /// The number of bits that are not set, in linear time.
     pub fn unset_bits(&self) -> usize
         ensures { result ≡ count_by not self.now.bits }
     {
-        self.values.iter().filter(|bit| !**bit).count()
+        count_unset(&self.values)
     }
 
     /// The bits one by one, from both ends.
