@@ -1,3 +1,3 @@
-pub mod SlotsLemmas
+pub mod ColumnsLemmas
 pub mod StepsLemmas
 pub mod PlansLemmas

@@ -8,13 +8,14 @@ use Rattle.column_base.specs.Kinds.{Slot, ColumnKind}
 use Rattle.column_base.specs.Lists.{sublist}
 use Rattle.column_base.proofs.ListsLemmas.{length-sublist, sublist-sublist}
 use Rattle.column_relayout.specs.declared.steps.Step.{Step}
-use Rattle.column_relayout.specs.declared.steps.Step.TheVariants.{Slice}
+use Rattle.column_relayout.specs.declared.steps.Step.TheVariants.{Slice, Left, Right, ToUtf8, ToBinary}
 use Rattle.column_storage.specs.Bits.{flags_of}
 use Rattle.column_relayout.specs.Columns.{RawLists, slots_of, count_of, IsWellFormed, AreAlike}
 use Rattle.column_relayout.specs.Plans.{step_fault, kind_after, slots_after, leads, faults, at_fault, meaning_from, plan_meaning, is_light, IsLight, ReachesHeavy, span_after, span_of, part_flags, part_of, light_lists}
 use Rattle.column_relayout.specs.Steps.{StepsTo}
-use Rattle.column_relayout.proofs.StepsLemmas.{within_range}
-use Rattle.column_relayout.proofs.SlotsLemmas.{flags_all, length-offset_slots, flags_of-part}
+use Rattle.column_binary.proofs.SlotsLemmas.{length-offset_slots}
+use Rattle.column_relayout.proofs.ColumnsLemmas.{flags_of-part}
+use Rattle.column_relayout.proofs.StepsLemmas.{within_range, whole_alike}
 
 -- ---- spans
 
@@ -73,20 +74,32 @@ alike_trans a b c ab bc = record {
 -- a light step's span within any span
 span_from : (f m : ℕ) (step : Step) → span_after (f, m) step ≡ (f + (span_after (0, m) step).0, (span_after (0, m) step).1)
 span_from f m (Slice from n) = let e : 0 + from ≡ from = omega arith in rw e refl
+span_from f m (Left n) = let e : f + 0 ≡ f = omega arith in rw e refl
+span_from f m (Right n) = let e : 0 + n ≡ n = omega arith in rw e refl
+span_from f m ToUtf8 = let e : f + 0 ≡ f = omega arith in rw e refl
+span_from f m ToBinary = let e : f + 0 ≡ f = omega arith in rw e refl
 
 -- a step without a fault stays within the slots that it meets
 span_within : (kind : ColumnKind) (slots : List Slot) (step : Step) → step_fault kind slots step ≡ None → (span_after (0, length slots) step).0 + (span_after (0, length slots) step).1 ≤ length slots
 unfolding step_fault
 span_within kind slots (Slice from n) none =
-    let inside = within_range (length slots) from n none in
+    let inside = within_range (length slots) (from + n) none in
     omega arith
+span_within kind slots (Left n) none =
+    let inside = within_range (length slots) n none in
+    omega arith
+span_within kind slots (Right n) none =
+    let inside = within_range (length slots) n none in
+    omega arith
+span_within kind slots ToUtf8 none = omega arith
+span_within kind slots ToBinary none = omega arith
 
 pub part_step : (start now new : RawLists) (kind : ColumnKind) (span : ℕ × ℕ) (step : Step) → IsWellFormed start → IsWellFormed now → IsPart now start kind span → StepsTo now step new → step_fault now.kind (slots_of now) step ≡ None → is_light step ≡ true → IsPart new start (kind_after kind step) (span_after span step)
 unfolding part_of
 part_step start now new kind (f, m) step first before part steps none light =
-    let some = first.sound.not_empty in
+    let some = first.sound.sound.not_empty in
     let counted : count_of now ≡ m = same_count now (part_of start kind (f, m)) part.alike ∙ part_count start kind f m some part.within in
-    let slots : length (slots_of now) ≡ m = length-offset_slots now.lists before ∙ counted in
+    let slots : length (slots_of now) ≡ m = length-offset_slots now.lists before.sound ∙ counted in
     let same_kind : now.kind ≡ kind = part.alike.kinds in
     let next = kind_after kind step in
     let g = (span_after (0, m) step).0 in
@@ -110,29 +123,12 @@ pub record Reached (start : RawLists) (plan : List Step) (i : ℕ) (now : RawLis
   pub heavy : ReachesHeavy now.kind (slots_of now) (drop i plan) → ReachesHeavy start.kind (slots_of start) plan
   pub light : IsLight (take i plan) → IsPart now start (fold kind_after start.kind (take i plan)) (span_of (take i plan) (count_of start))
 
-whole_flags : (flags : Option (List Bool)) (n : ℕ) → IfSome flags (λ bits. length bits ≡ n) → flags_of n flags ≡ flags_of n (part_flags flags 0 n)
-whole_flags None n all = refl
-whole_flags (Some bits) n all = sym (ap (λ k. take k bits) (sym all) ∙ take-length bits)
-
 -- a column is the part of itself that has all slots
 whole_part : (start : RawLists) → IsWellFormed start → IsPart start start start.kind (0, count_of start)
-unfolding part_of
-whole_part start sound =
-    let some = sound.sound.not_empty in
-    let n = count_of start in
-    let all : n + 1 ≡ length start.lists.offsets = omega arith in
-    let offsets : take (n + 1) start.lists.offsets ≡ start.lists.offsets = ap (λ k. take k start.lists.offsets) all ∙ take-length start.lists.offsets in
-    record {
-      within = omega arith;
-      alike = record {
-        kinds = refl;
-        offsets = sym offsets;
-        values = refl;
-        flags =
-            whole_flags start.lists.flags n (flags_all start.lists sound)
-            ∙ ap (λ ns. flags_of (length ns - 1) (part_flags start.lists.flags 0 n)) (sym offsets);
-      };
-    }
+whole_part start formed = record {
+  within = omega arith;
+  alike = whole_alike start.kind start.kind start.lists formed.sound;
+}
 
 pub reached_start : (start now : RawLists) (plan : List Step) → now ≡ start → IsWellFormed start → Reached start plan 0 now
 reached_start start now plan same sound =

@@ -1,13 +1,16 @@
 -- Kinds, and their words.
-use Rattle.std.specs.Prelude.{ℕ, List, codes}
+use Rattle.std.specs.Prelude.{ℕ, Bool, true, false, List, codes}
 use Rattle.column_base.specs.Kinds.{ColumnKind}
 use Rattle.column_base.specs.Kinds as kinds
 use Rattle.column_relayout.specs.declared.kind.Kind.{Kind}
-use Rattle.column_relayout.specs.declared.kind.Kind.TheVariants.{Binary32}
+use Rattle.column_relayout.specs.declared.kind.Kind.TheVariants.{Binary32, Binary64, Utf8_32, Utf8_64}
 
 -- the kind, as plain data
 abbrev pub kind_of : Kind → ColumnKind
 kind_of Binary32 = kinds.Binary32
+kind_of Binary64 = kinds.Binary64
+kind_of Utf8_32 = kinds.Utf8_32
+kind_of Utf8_64 = kinds.Utf8_64
 
 -- the word for a kind: this library's own
 abbrev pub kind_name : ColumnKind → List ℕ
@@ -19,3 +22,31 @@ kind_name kinds.Utf8_32 = codes "utf8_32"
 kind_name kinds.Utf8_64 = codes "utf8_64"
 kind_name kinds.BinView = codes "binview"
 kind_name kinds.Utf8View = codes "utf8view"
+
+-- Arrow columnar format, "Data Types": slots are texts
+abbrev pub is_text : ColumnKind → Bool
+is_text kinds.Utf8_32 = true
+is_text kinds.Utf8_64 = true
+is_text kinds.Utf8View = true
+is_text kind = false
+
+-- slots are byte strings, in a layout that has texts too
+abbrev pub is_binary : ColumnKind → Bool
+is_binary kinds.Binary32 = true
+is_binary kinds.Binary64 = true
+is_binary kinds.BinView = true
+is_binary kind = false
+
+-- the kind of texts in the same layout
+abbrev pub text_kind : ColumnKind → ColumnKind
+text_kind kinds.Binary32 = kinds.Utf8_32
+text_kind kinds.Binary64 = kinds.Utf8_64
+text_kind kinds.BinView = kinds.Utf8View
+text_kind kind = kind
+
+-- the kind of byte strings in the same layout
+abbrev pub binary_kind : ColumnKind → ColumnKind
+binary_kind kinds.Utf8_32 = kinds.Binary32
+binary_kind kinds.Utf8_64 = kinds.Binary64
+binary_kind kinds.Utf8View = kinds.BinView
+binary_kind kind = kind

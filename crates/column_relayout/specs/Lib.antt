@@ -1,5 +1,4 @@
 pub mod Kinds
-pub mod Slots
 pub mod Columns
 pub mod Plans
 pub mod Steps

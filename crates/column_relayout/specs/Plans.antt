@@ -1,32 +1,47 @@
 -- What a plan means for lists of slots, where it faults, and which plans move no byte.
-use Rattle.std.specs.Prelude.{◌≡◌, ℕ, ◌+◌, Bool, true, nat_lt, List, [], ◌∷◌, length, fold, MatchBool, Option, Some, None}
+use Rattle.std.specs.Prelude.{◌≡◌, ℕ, ◌+◌, ◌-◌, Bool, true, not, nat_lt, List, [], ◌∷◌, length, take, drop, fold, MatchBool, Option, Some, None}
 use Rattle.column_base.specs.declared.errors.Cause.{Cause}
-use Rattle.column_base.specs.declared.errors.Cause.TheVariants.{StepRange}
-use Rattle.column_base.specs.Answers.{cause_if}
+use Rattle.column_base.specs.declared.errors.Cause.TheVariants.{StepRange, WrongKind}
+use Rattle.column_base.specs.Answers.{cause_if, ◌or_else◌}
 use Rattle.column_base.specs.Kinds.{Slot, ColumnKind}
 use Rattle.column_base.specs.Lists.{sublist}
+use Rattle.column_base.specs.Slots.{values_of}
+use Rattle.column_offset.specs.Text.{texts_fault}
+use Rattle.column_binary.specs.Slots.{offset_lists}
 use Rattle.column_relayout.specs.declared.steps.Step.{Step}
-use Rattle.column_relayout.specs.declared.steps.Step.TheVariants.{Slice}
-use Rattle.column_relayout.specs.Slots.{offset_lists}
+use Rattle.column_relayout.specs.declared.steps.Step.TheVariants.{Slice, Left, Right, ToUtf8, ToBinary}
+use Rattle.column_relayout.specs.Kinds.{is_text, is_binary, text_kind, binary_kind}
 use Rattle.column_relayout.specs.Columns.{RawLists, raw_lists, slots_of, count_of}
 
 -- ---- one step
 
 -- a range that ends past the number of slots
-abbrev pub range_fault : ℕ → ℕ → ℕ → Option Cause
-range_fault count from n = cause_if (nat_lt count (from + n)) StepRange
+abbrev pub range_fault : ℕ → ℕ → Option Cause
+range_fault count end = cause_if (nat_lt count end) StepRange
 
 -- the first fault of a step
 unfoldable pub step_fault : ColumnKind → List Slot → Step → Option Cause
-step_fault kind slots (Slice from n) = range_fault (length slots) from n
+step_fault kind slots (Slice from n) = range_fault (length slots) (from + n)
+step_fault kind slots (Left n) = range_fault (length slots) n
+step_fault kind slots (Right n) = range_fault (length slots) n
+step_fault kind slots ToUtf8 = cause_if (not (is_binary kind)) WrongKind or_else texts_fault (values_of slots)
+step_fault kind slots ToBinary = cause_if (not (is_text kind)) WrongKind
 
 -- the kind that a step gives
 abbrev pub kind_after : ColumnKind → Step → ColumnKind
 kind_after kind (Slice from n) = kind
+kind_after kind (Left n) = kind
+kind_after kind (Right n) = kind
+kind_after kind ToUtf8 = text_kind kind
+kind_after kind ToBinary = binary_kind kind
 
 -- the slots that a step gives
 unfoldable pub slots_after : List Slot → Step → List Slot
 slots_after slots (Slice from n) = sublist slots from n
+slots_after slots (Left n) = take n slots
+slots_after slots (Right n) = drop n slots
+slots_after slots ToUtf8 = slots
+slots_after slots ToBinary = slots
 
 -- ---- the plan
 
@@ -52,6 +67,10 @@ plan_meaning column plan = meaning_from 0 column.kind (slots_of column) plan
 -- the step moves no byte of a column
 abbrev pub is_light : Step → Bool
 is_light (Slice from n) = true
+is_light (Left n) = true
+is_light (Right n) = true
+is_light ToUtf8 = true
+is_light ToBinary = true
 
 abbrev pub IsLight : List Step → Type 0
 IsLight [] = Unit {0}
@@ -65,6 +84,10 @@ ReachesHeavy kind slots (step ∷ plan) = (step_fault kind slots step ≡ None) 
 -- The slots that light steps leave of the first ones: from which on, and how many.
 abbrev pub span_after : ℕ × ℕ → Step → ℕ × ℕ
 span_after span (Slice from n) = (span.0 + from, n)
+span_after span (Left n) = (span.0, n)
+span_after span (Right n) = (span.0 + n, span.1 - n)
+span_after span ToUtf8 = span
+span_after span ToBinary = span
 
 abbrev pub span_of : List Step → ℕ → ℕ × ℕ
 span_of plan n = fold span_after (0, n) plan

@@ -1,12 +1,9 @@
 //! Raw parts, and the columns that they become.
 
-ghost use Rattle.std.specs.Prelude.{◌≡◌};
-ghost use Rattle.column_relayout.specs.Kinds.{kind_of};
-
-use crate::binary::BinaryArray;
-use crate::kind::Kind;
 use column_base::Cause;
+use column_binary::BinaryArray;
 use column_storage::{Bitmap, Buffer};
+use column_utf8::Utf8Array;
 
 /// The raw lists of one column, of which nothing is known yet.
 #[derive(Drop)]
@@ -22,6 +19,17 @@ pub enum RawColumn {
         /// A flag for each slot, where true is valid.
         validity: Option<Bitmap>,
     },
+    /// The same with offsets of 64 bits.
+    Offset64 {
+        /// Whether the slots are texts.
+        text: bool,
+        /// One more offset than there are slots.
+        offsets: Buffer<i64>,
+        /// The bytes of the slots.
+        values: Buffer<u8>,
+        /// A flag for each slot, where true is valid.
+        validity: Option<Bitmap>,
+    },
 }
 
 /// A column of one of the kinds.
@@ -29,6 +37,12 @@ pub enum RawColumn {
 pub enum AnyArray {
     /// Byte strings with offsets of 32 bits.
     Binary32(BinaryArray<i32>),
+    /// Byte strings with offsets of 64 bits.
+    Binary64(BinaryArray<i64>),
+    /// Texts with offsets of 32 bits.
+    Utf8_32(Utf8Array<i32>),
+    /// Texts with offsets of 64 bits.
+    Utf8_64(Utf8Array<i64>),
 }
 
 /// Why a plan gave no column.

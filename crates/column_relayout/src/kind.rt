@@ -8,6 +8,12 @@ ghost use Rattle.column_relayout.specs.Kinds.{kind_of, kind_name};
 pub enum Kind {
     /// Byte strings with offsets of 32 bits: "Variable-size Binary Layout".
     Binary32,
+    /// Byte strings with offsets of 64 bits.
+    Binary64,
+    /// Texts with offsets of 32 bits.
+    Utf8_32,
+    /// Texts with offsets of 64 bits.
+    Utf8_64,
 }
 
 impl Kind {
@@ -17,6 +23,9 @@ impl Kind {
     {
         match self {
             Kind::Binary32 => "binary32",
+            Kind::Binary64 => "binary64",
+            Kind::Utf8_32 => "utf8_32",
+            Kind::Utf8_64 => "utf8_64",
         }
     }
 }

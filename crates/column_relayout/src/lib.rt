@@ -1,16 +1,21 @@
 //! Raw parts into columns, and plans of steps over them: a cheap change of layout never changes a row.
 #![tactic(auto)]
 
-mod binary;
+mod assembly;
 mod columns;
+mod conversion;
+mod cut;
 mod kind;
+mod layout;
 mod plan;
 mod steps;
 
-pub use binary::BinaryArray;
+pub use assembly::assemble;
 pub use columns::{AnyArray, ColumnError, RawColumn};
+pub use conversion::{step_to_binary, step_to_utf8};
+pub use cut::{step_left, step_right, step_slice};
 pub use kind::Kind;
-pub use plan::{assemble, relayout, step_slice};
+pub use plan::relayout;
 pub use steps::Step;
 
 #[cfg(test)]

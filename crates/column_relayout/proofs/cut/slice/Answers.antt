@@ -1,0 +1,19 @@
+-- The range is tested against the number of slots.
+use Rattle.std.proofs.Common.{◌≡◌, ◌+◌, ◌≤◌, ◌<◌, ◌∙◌, sym, true, false, nat_le, arith}
+use Rattle.std.proofs.lemmas.Bool.Decides.{nat_tests}
+use Rattle.column_relayout.proofs.StepsLemmas.{slice_fault, range_fits, range_passes, slice_steps}
+use Rattle.column_relayout.proofs.cut.slice.Goals as goal
+
+pub returns-then-is_within : goal.returns-then-is_within
+returns-then-is_within g c =
+    let test : nat_le (c.args.offset + c.args.length) c.count.result ≡ true = sym c.is_within.ensures ∙ c.if-is_within.true in
+    let within : c.args.offset + c.args.length ≤ c.count.result = grind (arith, nat_tests) in (
+      slice_fault _ _ c.args.offset c.args.length ∙ range_fits _ (c.args.offset + c.args.length) (omega (arith, c.count.ensures.slots)),
+      slice_steps g.C.Column.kind (g.C.Column.lists c.args.column) (g.C.Column.lists c.part.result) c.args.offset c.args.length c.count.ensures.well_formed (omega (arith, c.count.ensures.count)) c.part.ensures.part c.part.ensures.slots c.part.ensures.well_formed,
+    )
+
+pub returns-else-is_within : goal.returns-else-is_within
+returns-else-is_within g c =
+    let test : nat_le (c.args.offset + c.args.length) c.count.result ≡ false = sym c.is_within.ensures ∙ c.if-is_within.false in
+    let past : c.count.result < c.args.offset + c.args.length = grind (arith, nat_tests) in
+    slice_fault _ _ c.args.offset c.args.length ∙ range_passes _ (c.args.offset + c.args.length) (omega (arith, c.count.ensures.slots))

@@ -1,0 +1,98 @@
+//! The steps that take a part of a column's slots.
+
+ghost use Rattle.std.specs.Prelude.{◌≡◌, ◌+◌, nat_le};
+ghost use Rattle.column_base.specs.Answers.{GivesCause};
+ghost use Rattle.column_binary.specs.Slots.{offset_slots};
+ghost use Rattle.column_relayout.specs.declared.steps.Step.TheVariants.{Slice, Left, Right};
+ghost use Rattle.column_relayout.specs.Columns.{raw_lists};
+ghost use Rattle.column_relayout.specs.Plans.{step_fault};
+ghost use Rattle.column_relayout.specs.Steps.{StepsTo};
+ghost use Rattle.column_relayout.specs.Arrays.{lists_of};
+ghost use Rattle.column_relayout.specs.Relayouts.{StepGives};
+
+use crate::columns::AnyArray;
+use crate::layout::Column;
+use column_base::Cause;
+
+/// The `length` slots from slot `offset` on. The column is consumed. Takes no memory.
+///
+/// `StepRange` where `offset` plus `length` passes the number of slots.
+pub fn step_slice(column: AnyArray, offset: usize, length: usize) -> Result<AnyArray, Cause>
+    ensures { StepGives (lists_of column) (Slice offset length) result }
+{
+    match column {
+        AnyArray::Binary32(array) => Ok(AnyArray::Binary32(slice(array, offset, length)?)),
+        AnyArray::Binary64(array) => Ok(AnyArray::Binary64(slice(array, offset, length)?)),
+        AnyArray::Utf8_32(array) => Ok(AnyArray::Utf8_32(slice(array, offset, length)?)),
+        AnyArray::Utf8_64(array) => Ok(AnyArray::Utf8_64(slice(array, offset, length)?)),
+    }
+}
+
+/// The first `count` slots. The column is consumed. Takes no memory.
+///
+/// `StepRange` where `count` passes the number of slots.
+pub fn step_left(column: AnyArray, count: usize) -> Result<AnyArray, Cause>
+    ensures { StepGives (lists_of column) (Left count) result }
+{
+    match column {
+        AnyArray::Binary32(array) => Ok(AnyArray::Binary32(left(array, count)?)),
+        AnyArray::Binary64(array) => Ok(AnyArray::Binary64(left(array, count)?)),
+        AnyArray::Utf8_32(array) => Ok(AnyArray::Utf8_32(left(array, count)?)),
+        AnyArray::Utf8_64(array) => Ok(AnyArray::Utf8_64(left(array, count)?)),
+    }
+}
+
+/// The slots from slot `count` on. The column is consumed. Takes no memory.
+///
+/// `StepRange` where `count` passes the number of slots.
+pub fn step_right(column: AnyArray, count: usize) -> Result<AnyArray, Cause>
+    ensures { StepGives (lists_of column) (Right count) result }
+{
+    match column {
+        AnyArray::Binary32(array) => Ok(AnyArray::Binary32(right(array, count)?)),
+        AnyArray::Binary64(array) => Ok(AnyArray::Binary64(right(array, count)?)),
+        AnyArray::Utf8_32(array) => Ok(AnyArray::Utf8_32(right(array, count)?)),
+        AnyArray::Utf8_64(array) => Ok(AnyArray::Utf8_64(right(array, count)?)),
+    }
+}
+
+#[tactic(auto, using(crate::proofs::StepsLemmas::cut_laws))]
+fn slice<C: Column>(column: C, offset: usize, length: usize) -> Result<C, Cause>
+    ensures { GivesCause result (step_fault C.kind (offset_slots (C.lists column)) (Slice offset length)) (λ part. StepsTo (raw_lists C.kind (C.lists column)) (Slice offset length) (raw_lists C.kind (C.lists part))) }
+{
+    if is_within(column.count(), offset, length) {
+        Ok(column.part(offset, length))
+    } else {
+        Err(Cause::StepRange)
+    }
+}
+
+#[tactic(auto, using(crate::proofs::StepsLemmas::cut_laws))]
+fn left<C: Column>(column: C, count: usize) -> Result<C, Cause>
+    ensures { GivesCause result (step_fault C.kind (offset_slots (C.lists column)) (Left count)) (λ part. StepsTo (raw_lists C.kind (C.lists column)) (Left count) (raw_lists C.kind (C.lists part))) }
+{
+    if count <= column.count() {
+        Ok(column.part(0, count))
+    } else {
+        Err(Cause::StepRange)
+    }
+}
+
+#[tactic(auto, using(crate::proofs::StepsLemmas::cut_laws))]
+fn right<C: Column>(column: C, count: usize) -> Result<C, Cause>
+    ensures { GivesCause result (step_fault C.kind (offset_slots (C.lists column)) (Right count)) (λ part. StepsTo (raw_lists C.kind (C.lists column)) (Right count) (raw_lists C.kind (C.lists part))) }
+{
+    let slots = column.count();
+    if count <= slots {
+        Ok(column.part(count, slots - count))
+    } else {
+        Err(Cause::StepRange)
+    }
+}
+
+/// Whether `length` slots from slot `offset` on are among `count` ones.
+fn is_within(count: usize, offset: usize, length: usize) -> bool
+    ensures { result ≡ nat_le (offset + length) count }
+{
+    length <= count && offset <= count - length
+}
