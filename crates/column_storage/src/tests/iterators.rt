@@ -122,3 +122,16 @@ fn optional_values_come_in_order(rt: HostRuntime) -> Result<(), Fail> {
     }
     Ok(())
 }
+
+#[test]
+fn optional_values_have_the_bits_of_a_validity(rt: HostRuntime) -> Result<(), Fail> {
+    let numbers = three(rt.alloc())?;
+    let flags = flags(rt.alloc())?;
+    let rows = ZipValidity::new_with_validity(ArrayValuesIter::new(&numbers), Some(&flags));
+    let all: Vec<Option<i32>> = rows.collect(rt.alloc())?;
+    assert_eq!(rt; all.as_slice(), [Some(10), None, Some(30)].as_slice());
+    let rows = ZipValidity::new_with_validity(ArrayValuesIter::new(&numbers), None);
+    let all: Vec<Option<i32>> = rows.collect(rt.alloc())?;
+    assert_eq!(rt; all.as_slice(), [Some(10), Some(20), Some(30)].as_slice());
+    Ok(())
+}
