@@ -102,8 +102,160 @@ fn parts_and_steps_are_refused(rt: HostRuntime) -> Result<(), Fail> {
 }
 
 #[test]
+fn texts_are_printed(rt: HostRuntime) -> Result<(), Fail> {
+    let table = [
+        (
+            r#"{"kind":"utf8_32","offsets":[0,2,2,7],"values":"68697468657265","validity":[true,false,true],"plan":[["slice",1,2]]}"#,
+            "ok utf8_32 2\n-\n+7468657265\noffsets=2,2,7\nvalues=68697468657265\n",
+        ),
+        (
+            r#"{"kind":"utf8_32","offsets":[0,2,2,7],"values":"68697468657265","validity":[true,false,true],"plan":[["to_binary"],["to_utf8"]]}"#,
+            "ok utf8_32 3\n+6869\n-\n+7468657265\noffsets=0,2,2,7\nvalues=68697468657265\n",
+        ),
+        (
+            r#"{"kind":"utf8_32","offsets":[0,2],"values":"c3a9a9"}"#,
+            "ok utf8_32 1\n+c3a9\noffsets=0,2\nvalues=c3a9a9\n",
+        ),
+        (
+            r#"{"kind":"utf8_32","offsets":[1,2],"values":"c361"}"#,
+            "ok utf8_32 1\n+61\noffsets=1,2\nvalues=c361\n",
+        ),
+        (
+            r#"{"kind":"utf8_32","offsets":[0,0,2,2],"values":"c3a9"}"#,
+            "ok utf8_32 3\n+\n+c3a9\n+\noffsets=0,0,2,2\nvalues=c3a9\n",
+        ),
+        (
+            r#"{"kind":"utf8_32","offsets":[1,1],"values":"c3a9"}"#,
+            "ok utf8_32 1\n+\noffsets=1,1\nvalues=c3a9\n",
+        ),
+        (
+            r#"{"kind":"utf8_64","offsets":[0,4],"values":"f48fbfbf"}"#,
+            "ok utf8_64 1\n+f48fbfbf\noffsets=0,4\nvalues=f48fbfbf\n",
+        ),
+    ];
+    for (document, text) in table {
+        expect(&rt, document.as_bytes(), 0, text)?;
+    }
+    Ok(())
+}
+
+#[test]
+fn light_steps_keep_the_values(rt: HostRuntime) -> Result<(), Fail> {
+    let table = [
+        (
+            r#"{"kind":"binary64","offsets":[0],"values":"","plan":[["slice",0,0],["right",0]]}"#,
+            "ok binary64 0\noffsets=0\nvalues=\n",
+        ),
+        (
+            r#"{"kind":"binary64","offsets":[1,1,2,4],"values":"ffaabbcc","validity":[true,false,true],"plan":[["left",2],["right",2]]}"#,
+            "ok binary64 0\noffsets=2\nvalues=ffaabbcc\n",
+        ),
+        (
+            r#"{"kind":"binary32","offsets":[0,1,3,3,4],"values":"61c3a962","validity":[false,true,false,true],"plan":[["right",1],["to_utf8"],["left",2]]}"#,
+            "ok utf8_32 2\n+c3a9\n-\noffsets=1,3,3\nvalues=61c3a962\n",
+        ),
+        (
+            r#"{"kind":"binary64","offsets":[0,1,2,3],"values":"ff61ff","plan":[["right",1],["left",1],["to_utf8"],["to_binary"],["to_utf8"]]}"#,
+            "ok utf8_64 1\n+61\noffsets=1,2\nvalues=ff61ff\n",
+        ),
+        (
+            r#"{"kind":"utf8_64","offsets":[0,1,2,3,4,5,6],"values":"616263646566","plan":[["left",6],["right",1],["to_binary"],["slice",0,5],["left",4],["to_utf8"],["right",1],["slice",1,2],["to_binary"],["left",1]]}"#,
+            "ok binary64 1\n+64\noffsets=3,4\nvalues=616263646566\n",
+        ),
+    ];
+    for (document, text) in table {
+        expect(&rt, document.as_bytes(), 0, text)?;
+    }
+    Ok(())
+}
+
+#[test]
+fn texts_are_refused(rt: HostRuntime) -> Result<(), Fail> {
+    let table: [(&[u8], &str); 9] = [
+        (
+            br#"{"kind":"utf8_32","offsets":[0,1,2],"values":"c3a9"}"#,
+            "refused parts CharBoundary\n",
+        ),
+        (
+            br#"{"kind":"utf8_32","offsets":[0,1,1,2],"values":"c3a9"}"#,
+            "refused parts CharBoundary\n",
+        ),
+        (
+            br#"{"kind":"utf8_32","offsets":[5],"values":""}"#,
+            "refused parts OffsetsExceedValues\n",
+        ),
+        (
+            br#"{"kind":"utf8_32","offsets":[0,1],"values":"ff","validity":[false]}"#,
+            "refused parts InvalidUtf8\n",
+        ),
+        (
+            br#"{"kind":"utf8_32","offsets":[1,2],"values":"c3a9"}"#,
+            "refused parts InvalidUtf8\n",
+        ),
+        (
+            br#"{"kind":"utf8_64","offsets":[0,3],"values":"eda080"}"#,
+            "refused parts InvalidUtf8\n",
+        ),
+        (
+            br#"{"kind":"utf8_64","offsets":[0,2],"values":"c080"}"#,
+            "refused parts InvalidUtf8\n",
+        ),
+        (
+            br#"{"kind":"utf8_32","offsets":[0,4],"values":"f4908080","validity":[]}"#,
+            "refused parts InvalidUtf8\n",
+        ),
+        (
+            br#"{"kind":"binary64","offsets":[9223372036854775807],"values":""}"#,
+            "refused parts OffsetsExceedValues\n",
+        ),
+    ];
+    for (document, text) in table {
+        expect(&rt, document, 1, text)?;
+    }
+    Ok(())
+}
+
+#[test]
+fn steps_are_refused(rt: HostRuntime) -> Result<(), Fail> {
+    let table: [(&[u8], &str); 7] = [
+        (
+            br#"{"kind":"binary32","offsets":[0,1,2,3],"values":"6162ff","validity":[true,true,false],"plan":[["slice",0,3],["right",0],["to_utf8"]]}"#,
+            "refused step 2 InvalidUtf8\n",
+        ),
+        (
+            br#"{"kind":"binary64","offsets":[0,1,2],"values":"c3a9","plan":[["to_utf8"]]}"#,
+            "refused step 0 CharBoundary\n",
+        ),
+        (
+            br#"{"kind":"binary32","offsets":[0,2,2,3],"values":"010203","validity":[true,false,true],"plan":[["to_binary"]]}"#,
+            "refused step 0 WrongKind\n",
+        ),
+        (
+            br#"{"kind":"utf8_64","offsets":[0,1],"values":"61","plan":[["to_utf8"]]}"#,
+            "refused step 0 WrongKind\n",
+        ),
+        (
+            br#"{"kind":"utf8_32","offsets":[0,1],"values":"61","plan":[["left",1],["left",2]]}"#,
+            "refused step 1 StepRange\n",
+        ),
+        (
+            br#"{"kind":"utf8_32","offsets":[0,1],"values":"61","plan":[["right",1],["right",1]]}"#,
+            "refused step 1 StepRange\n",
+        ),
+        (
+            br#"{"kind":"binary64","offsets":[0],"values":"","plan":[["right",18446744073709551615]]}"#,
+            "refused step 0 StepRange\n",
+        ),
+    ];
+    for (document, text) in table {
+        expect(&rt, document, 1, text)?;
+    }
+    Ok(())
+}
+
+#[test]
 fn what_is_no_document_is_told(rt: HostRuntime) -> Result<(), Fail> {
-    let table: [(&[u8], &str); 12] = [
+    let table: [(&[u8], &str); 15] = [
         (br#"{"kind":"bin"#, "document json\n"),
         (b"", "document json\n"),
         (b"\xff", "document json\n"),
@@ -130,7 +282,16 @@ fn what_is_no_document_is_told(rt: HostRuntime) -> Result<(), Fail> {
             br#"{"kind":"binary32","offsets":[0],"values":"","plan":[["turn"]]}"#,
             "document field plan\n",
         ),
+        (
+            br#"{"kind":"utf8_64","offsets":[9223372036854775808],"values":""}"#,
+            "document field offsets\n",
+        ),
+        (
+            br#"{"kind":"utf8_32","offsets":[0],"values":"","plan":[["left"]]}"#,
+            "document field plan\n",
+        ),
         (br#"{"kind":"fixed"}"#, "document unbuilt\n"),
+        (br#"{"kind":"utf8_32","plan":[["gc"]]}"#, "document unbuilt\n"),
     ];
     for (document, text) in table {
         expect(&rt, document, 2, text)?;

@@ -6,10 +6,9 @@ use Rattle.std.proofs.lemmas.List.Concat.{flat_map-append}
 use Rattle.std.proofs.lemmas.List.Folds.{flat_map-map}
 use Rattle.hex.specs.Hex.{encode_lower}
 use Rattle.column_base.specs.Kinds.{Slot, ColumnKind}
-use Rattle.column_storage.specs.Bits.{flags_of}
-use Rattle.column_offset.specs.Text.{pieces}
-use Rattle.column_relayout.specs.Slots.{slot_at, slots_by, offset_slots}
-use Rattle.column_relayout.specs.Columns.{RawLists, slots_of, count_of, AreAlike}
+use Rattle.column_base.specs.Slots.{slot_at}
+use Rattle.column_relayout.specs.Columns.{RawLists, slots_of, AreAlike}
+use Rattle.column_relayout.proofs.ColumnsLemmas.{alike_slots}
 use Rattle.column_tool.specs.Text.{slot_line, after_comma, numbers_text, offset_text, printed_head, printed}
 
 line_more : {X : Type 0} (f : X → List ℕ) (xs : List X) (i : ℕ) (d : X) → i < length xs → flat_map f (take (i + 1) xs) ≡ flat_map f (take i xs) ++ f (get_or xs i d)
@@ -32,13 +31,9 @@ next_number {X = X} int xs i x within is =
 -- ---- columns that are alike
 
 pub printed-alike : (a b : RawLists) → AreAlike a b → printed a ≡ printed b
-unfolding printed offset_slots
+unfolding printed
 printed-alike a b alike =
-    let slots : slots_of a ≡ slots_of b =
-    ap (λ (flags : List Bool). slots_by flags (pieces a.lists.offsets a.lists.values)) alike.flags
-    ∙ ap (λ (offsets : List ℤ). slots_by (flags_of (count_of b) b.lists.flags) (pieces offsets a.lists.values)) alike.offsets
-    ∙ ap (λ (values : List ℕ). slots_by (flags_of (count_of b) b.lists.flags) (pieces b.lists.offsets values)) alike.values in
     ap (λ (kind : ColumnKind). printed_head kind (slots_of a) ++ offset_text a.lists) alike.kinds
-    ∙ ap (λ (slots : List Slot). printed_head b.kind slots ++ offset_text a.lists) slots
+    ∙ ap (λ (slots : List Slot). printed_head b.kind slots ++ offset_text a.lists) (alike_slots a b alike)
     ∙ ap (λ (offsets : List ℤ). printed_head b.kind (slots_of b) ++ (codes "offsets=" ++ numbers_text offsets ++ codes "\nvalues=" ++ encode_lower a.lists.values ++ codes "\n")) alike.offsets
     ∙ ap (λ (values : List ℕ). printed_head b.kind (slots_of b) ++ (codes "offsets=" ++ numbers_text b.lists.offsets ++ codes "\nvalues=" ++ encode_lower values ++ codes "\n")) alike.values

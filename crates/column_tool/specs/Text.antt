@@ -8,7 +8,7 @@ use Rattle.column_base.specs.Errors.{name_of}
 use Rattle.column_relayout.specs.declared.columns.ColumnError.{ColumnError}
 use Rattle.column_relayout.specs.declared.columns.ColumnError.TheVariants.{NoMemory, Parts, Step}
 use Rattle.column_relayout.specs.Kinds.{kind_name}
-use Rattle.column_relayout.specs.Slots.{OffsetLists}
+use Rattle.column_binary.specs.Slots.{OffsetLists}
 use Rattle.column_relayout.specs.Columns.{RawLists, slots_of}
 
 -- ---- a column

@@ -2,7 +2,6 @@
 
 ghost use Rattle.std.specs.Prelude.{◌≡◌, ℕ, List, IfOk, None};
 ghost use Rattle.serde_json.specs.View.{view};
-ghost use Rattle.column_relayout.specs.Arrays.{IsBuilt};
 ghost use Rattle.column_base.specs.Answers.{Answers};
 ghost use Rattle.column_document.specs.Document.{ReadsFieldsAs, document};
 ghost use Rattle.column_tool.specs.Documents.{json_of, document_in, fault_line, Parses};
@@ -57,8 +56,7 @@ fn parse(alloc: Global, bytes: &[u8]) -> Result<Value, DocError>
 /// The parts and the plan of a document's bytes, which are dropped.
 #[tactic(auto, unfolding(crate::specs::Documents::document_in))]
 fn read_bytes(alloc: Global, bytes: Vec<u8>) -> Result<(RawColumn, Vec<Step>), DocError>
-    ensures said { ReadsFieldsAs (λ read. document read.0 read.1.items) result (document_in bytes.items) }
-    ensures built { IfOk result (λ read. IsBuilt read.0) }
+    ensures { ReadsFieldsAs (λ read. document read.0 read.1.items) result (document_in bytes.items) }
 {
     let value = parse(alloc, &bytes)?;
     drop(bytes);
@@ -67,7 +65,6 @@ fn read_bytes(alloc: Global, bytes: Vec<u8>) -> Result<(RawColumn, Vec<Step>), D
 
 /// What is answered to parts and a plan.
 fn reply_to_document(alloc: Global, parts: RawColumn, plan: Vec<Step>) -> Result<Reply, PolarsError>
-    requires { IsBuilt parts }
     ensures { (bytes : List ℕ) → document_in bytes ≡ Ok (document parts plan.items) → IfOk result (λ reply. IsReply bytes reply.outcome reply.text.items) }
 {
     match relayout(alloc, parts, &plan) {

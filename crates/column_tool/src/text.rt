@@ -7,14 +7,15 @@ ghost use Rattle.hex.specs.Hex.{encode_lower};
 ghost use Rattle.column_base.specs.Answers.{Answers};
 ghost use Rattle.column_base.specs.Kinds.{ColumnKind};
 ghost use Rattle.column_relayout.specs.Kinds.{kind_of};
-ghost use Rattle.column_relayout.specs.Slots.{offset_slots, AreSoundLists};
+ghost use Rattle.column_binary.specs.Slots.{offset_slots};
 ghost use Rattle.column_relayout.specs.Arrays.{lists_of};
 ghost use Rattle.column_relayout.specs.Columns.{raw_lists};
 ghost use Rattle.column_base.specs.Errors.{name_of};
 ghost use Rattle.column_tool.specs.Text.{printed, printed_head, slot_line, sign_of, after_comma, numbers_text, offset_text, refusal_line};
 
 use column_base::{Cause, Offset, PolarsError};
-use column_relayout::{AnyArray, BinaryArray, ColumnError, Kind};
+use column_binary::BinaryArray;
+use column_relayout::{AnyArray, ColumnError, Kind};
 use itoa::Integer;
 use std::alloc::{AllocError, Global};
 
@@ -27,6 +28,12 @@ trait PrintedOffset: Offset + Integer {
 }
 
 impl PrintedOffset for i32 {
+    ghost use Rattle.std.specs.Prelude.{refl};
+
+    ghost is_decimal = { λ n. refl };
+}
+
+impl PrintedOffset for i64 {
     ghost use Rattle.std.specs.Prelude.{refl};
 
     ghost is_decimal = { λ n. refl };
@@ -125,7 +132,7 @@ fn append_lists<O: PrintedOffset>(
 }
 
 #[tactic(auto, unfolding(crate::specs::Text::printed))]
-fn binary_text<O: PrintedOffset>(
+fn array_text<O: PrintedOffset>(
     alloc: Global,
     kind: Kind,
     array: &BinaryArray<O>,
@@ -147,7 +154,10 @@ pub fn text_of(alloc: Global, column: &AnyArray) -> Result<Vec<u8>, PolarsError>
     ensures { Answers result None (λ text. text.items ≡ printed (lists_of column.now)) }
 {
     match column {
-        AnyArray::Binary32(array) => Ok(binary_text(alloc, Kind::Binary32, array)?),
+        AnyArray::Binary32(array) => Ok(array_text(alloc, Kind::Binary32, array)?),
+        AnyArray::Binary64(array) => Ok(array_text(alloc, Kind::Binary64, array)?),
+        AnyArray::Utf8_32(array) => Ok(array_text(alloc, Kind::Utf8_32, &array.to_binary()?)?),
+        AnyArray::Utf8_64(array) => Ok(array_text(alloc, Kind::Utf8_64, &array.to_binary()?)?),
     }
 }
 

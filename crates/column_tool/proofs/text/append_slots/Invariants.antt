@@ -1,6 +1,6 @@
 use Rattle.std.proofs.Common.{◌≡◌, ◌++◌, take}
 use Rattle.std.specs.List.{flat_map}
-use Rattle.column_relayout.specs.Slots.{offset_slots}
+use Rattle.column_binary.specs.Slots.{offset_slots}
 use Rattle.column_tool.specs.Text.{slot_line}
 use Rattle.column_tool.proofs.text.append_slots.Given as goal
 
