@@ -1,11 +1,21 @@
 -- Steps with another number of arguments than theirs.
-use Rattle.std.proofs.Common.{◌≡◌, ◌≢◌, List, [], ◌∷◌, length, None, refl}
+use Rattle.std.proofs.Common.{ℕ, ◌≡◌, ◌≢◌, List, [], ◌∷◌, length, None, refl}
 use Rattle.serde_json.specs.declared.value.Value.{Value}
 use Rattle.serde_json.specs.View.{items_view}
-use Rattle.column_document.specs.Steps.{slice_of}
+use Rattle.column_relayout.specs.declared.steps.Step.{Step}
+use Rattle.column_document.specs.Steps.{no_numbers, one_number, two_numbers}
 
-pub other_than_two : (arguments : List Value) → length arguments ≢ 2 → slice_of (items_view arguments) ≡ None
-other_than_two [] other = refl
-other_than_two (a ∷ []) other = refl
-other_than_two (a ∷ b ∷ []) other = absurd (other refl)
-other_than_two (a ∷ b ∷ c ∷ rest) other = refl
+pub other_than_none : (step : Step) → (arguments : List Value) → length arguments ≢ 0 → no_numbers step (items_view arguments) ≡ None
+other_than_none step [] other = absurd (other refl)
+other_than_none step (a ∷ rest) other = refl
+
+pub other_than_one : (step : ℕ → Step) → (arguments : List Value) → length arguments ≢ 1 → one_number step (items_view arguments) ≡ None
+other_than_one step [] other = refl
+other_than_one step (a ∷ []) other = absurd (other refl)
+other_than_one step (a ∷ b ∷ rest) other = refl
+
+pub other_than_two : (step : ℕ → ℕ → Step) → (arguments : List Value) → length arguments ≢ 2 → two_numbers step (items_view arguments) ≡ None
+other_than_two step [] other = refl
+other_than_two step (a ∷ []) other = refl
+other_than_two step (a ∷ b ∷ []) other = absurd (other refl)
+other_than_two step (a ∷ b ∷ c ∷ rest) other = refl

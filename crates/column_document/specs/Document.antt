@@ -1,13 +1,13 @@
 -- What a JSON value says as a document: raw parts and a plan, or its fault. This library's own.
-use Rattle.std.specs.Prelude.{◌≡◌, ℕ, Bool, false, if◌then◌else◌, List, [], codes, Option, None, Some, option_map, option_and_then, Result, Ok, Err, ⊤}
+use Rattle.std.specs.Prelude.{◌≡◌, ℕ, ℤ, Bool, true, false, if◌then◌else◌, List, [], codes, Option, None, Some, option_map, option_and_then, Result, Ok, Err, ⊤}
 use Rattle.std.specs.Option.{ok_or}
 use Rattle.std.specs.Str.{bytes_eq}
 use Rattle.serde_json.specs.Data.{Data, null}
 use Rattle.serde_json.specs.Find.{get, as_bool, as_str}
 use Rattle.column_relayout.specs.declared.columns.RawColumn.{RawColumn}
-use Rattle.column_relayout.specs.declared.columns.RawColumn.TheVariants.{Offset32}
+use Rattle.column_relayout.specs.declared.columns.RawColumn.TheVariants.{Offset32, Offset64}
 use Rattle.column_relayout.specs.declared.kind.Kind.{Kind}
-use Rattle.column_relayout.specs.declared.kind.Kind.TheVariants.{Binary32}
+use Rattle.column_relayout.specs.declared.kind.Kind.TheVariants.{Binary32, Binary64, Utf8_32, Utf8_64}
 use Rattle.column_relayout.specs.declared.steps.Step.{Step}
 use Rattle.column_document.specs.declared.field.Field.{Field}
 use Rattle.column_document.specs.declared.field.Field.TheVariants as field
@@ -18,7 +18,7 @@ use Rattle.column_document.specs.declared.field.DocError.TheVariants as error
 use Rattle.column_document.specs.declared.from_json.Unread.{Unread}
 use Rattle.column_document.specs.declared.from_json.Unread.TheVariants as unread
 use Rattle.column_document.specs.Fields.{field_name}
-use Rattle.column_document.specs.Values.{list_of, i32_of, hex_of}
+use Rattle.column_document.specs.Values.{list_of, i32_of, i64_of, hex_of}
 use Rattle.column_document.specs.Steps.{step_of}
 use Rattle.column_document.specs.Unbuilt.{has_unbuilt_word}
 
@@ -52,7 +52,12 @@ needed field of document = ok_or (option_and_then of (get (field_name field) doc
 
 -- `kind`: the word for a kind that is built
 abbrev pub kind_named : List ℕ → Option Kind
-kind_named word = if bytes_eq word (codes "binary32") then Some Binary32 else None
+kind_named word =
+    if bytes_eq word (codes "binary32") then Some Binary32
+    else if bytes_eq word (codes "binary64") then Some Binary64
+    else if bytes_eq word (codes "utf8_32") then Some Utf8_32
+    else if bytes_eq word (codes "utf8_64") then Some Utf8_64
+    else None
 
 abbrev pub kind_from : Data → Option Kind
 kind_from value = option_and_then kind_named (as_str value)
@@ -76,17 +81,20 @@ plan_of document = ok_or (optional_steps (get (field_name field.Plan) document))
 
 -- ---- the document
 
--- lists with offsets of 32 bits: `offsets`, `values` and `validity`
-abbrev pub short_parts : Bool → Data → Result RawColumn DocFault
-short_parts text document = do
-  offsets ← needed field.Offsets (list_of i32_of) document
+-- parts with offsets: `offsets`, each a number of its kind, `values` and `validity`
+abbrev pub offset_parts : (Data → Option ℤ) → (List ℤ → List ℕ → Option (List Bool) → RawColumn) → Data → Result RawColumn DocFault
+offset_parts offset made document = do
+  offsets ← needed field.Offsets (list_of offset) document
   values ← needed field.Values hex_of document
   validity ← validity_of document
-  Ok (Offset32 text offsets values validity)
+  Ok (made offsets values validity)
 
 -- the fields of a kind
 abbrev pub parts_of : Kind → Data → Result RawColumn DocFault
-parts_of Binary32 document = short_parts false document
+parts_of Binary32 document = offset_parts i32_of (Offset32 false) document
+parts_of Binary64 document = offset_parts i64_of (Offset64 false) document
+parts_of Utf8_32 document = offset_parts i32_of (Offset32 true) document
+parts_of Utf8_64 document = offset_parts i64_of (Offset64 true) document
 
 -- raw parts of a column, and the steps to take
 pub record Document : Type 0 where

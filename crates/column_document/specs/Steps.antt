@@ -1,24 +1,41 @@
 -- The steps of a document's plan: this library's own. A step is an array of its name and its arguments.
-use Rattle.std.specs.Prelude.{ℕ, if◌then◌else◌, List, codes, Option, None, Some}
+use Rattle.std.specs.Prelude.{ℕ, if◌then◌else◌, List, codes, Option, None, Some, option_map}
 use Rattle.std.specs.Str.{bytes_eq}
 use Rattle.serde_json.specs.Data.{Data, Items, no_items, item}
 use Rattle.serde_json.specs.Find.{as_str, as_array}
 use Rattle.column_relayout.specs.declared.steps.Step.{Step}
-use Rattle.column_relayout.specs.declared.steps.Step.TheVariants.{Slice}
+use Rattle.column_relayout.specs.declared.steps.Step.TheVariants.{Slice, Left, Right, ToUtf8, ToBinary}
 use Rattle.column_document.specs.Values.{◌>>=◌, u64_of}
 
--- exactly two numbers: the first slot, and how many
-abbrev pub slice_of : Items → Option Step
-slice_of no_items = None
-slice_of (item a no_items) = None
-slice_of (item a (item b no_items)) = do
-  offset ← u64_of a
-  length ← u64_of b
-  Some (Slice offset length)
-slice_of (item a (item b (item c rest))) = None
+-- a step without arguments
+abbrev pub no_numbers : Step → Items → Option Step
+no_numbers step no_items = Some step
+no_numbers step (item a rest) = None
+
+-- a step of exactly one number
+abbrev pub one_number : (ℕ → Step) → Items → Option Step
+one_number step no_items = None
+one_number step (item a no_items) = option_map step (u64_of a)
+one_number step (item a (item b rest)) = None
+
+-- a step of exactly two numbers
+abbrev pub two_numbers : (ℕ → ℕ → Step) → Items → Option Step
+two_numbers step no_items = None
+two_numbers step (item a no_items) = None
+two_numbers step (item a (item b no_items)) = do
+  first ← u64_of a
+  second ← u64_of b
+  Some (step first second)
+two_numbers step (item a (item b (item c rest))) = None
 
 abbrev pub step_named : List ℕ → Items → Option Step
-step_named word arguments = if bytes_eq word (codes "slice") then slice_of arguments else None
+step_named word arguments =
+    if bytes_eq word (codes "slice") then two_numbers Slice arguments
+    else if bytes_eq word (codes "left") then one_number Left arguments
+    else if bytes_eq word (codes "right") then one_number Right arguments
+    else if bytes_eq word (codes "to_utf8") then no_numbers ToUtf8 arguments
+    else if bytes_eq word (codes "to_binary") then no_numbers ToBinary arguments
+    else None
 
 abbrev pub step_from : Items → Option Step
 step_from no_items = None

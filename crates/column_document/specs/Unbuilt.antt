@@ -9,15 +9,13 @@ use Rattle.serde_json.specs.Find.{get, at, as_str, as_array}
 
 abbrev pub is_unbuilt_kind : List ℕ → Bool
 is_unbuilt_kind word =
-    bytes_eq word (codes "fixed") || bytes_eq word (codes "int64") || bytes_eq word (codes "binary64")
-    || bytes_eq word (codes "utf8_32") || bytes_eq word (codes "utf8_64") || bytes_eq word (codes "binview")
+    bytes_eq word (codes "fixed") || bytes_eq word (codes "int64") || bytes_eq word (codes "binview")
     || bytes_eq word (codes "utf8view")
 
 abbrev pub is_unbuilt_step : List ℕ → Bool
 is_unbuilt_step word =
-    bytes_eq word (codes "left") || bytes_eq word (codes "right") || bytes_eq word (codes "to_utf8")
-    || bytes_eq word (codes "to_binary") || bytes_eq word (codes "gc") || bytes_eq word (codes "dedupe")
-    || bytes_eq word (codes "append") || bytes_eq word (codes "rebuild")
+    bytes_eq word (codes "gc") || bytes_eq word (codes "dedupe") || bytes_eq word (codes "append")
+    || bytes_eq word (codes "rebuild")
 
 -- a value that is there, of which the test holds
 abbrev pub holds : {X : Type 0} → (X → Bool) → Option X → Bool

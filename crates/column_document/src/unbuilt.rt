@@ -58,17 +58,11 @@ fn is_unbuilt_element(element: &Value) -> bool
 fn is_unbuilt_kind(word: &str) -> bool
     ensures { result ≡ is_unbuilt_kind word.now }
 {
-    matches!(
-        word,
-        "fixed" | "int64" | "binary64" | "utf8_32" | "utf8_64" | "binview" | "utf8view"
-    )
+    matches!(word, "fixed" | "int64" | "binview" | "utf8view")
 }
 
 fn is_unbuilt_step(word: &str) -> bool
     ensures { result ≡ is_unbuilt_step word.now }
 {
-    matches!(
-        word,
-        "left" | "right" | "to_utf8" | "to_binary" | "gc" | "dedupe" | "append" | "rebuild"
-    )
+    matches!(word, "gc" | "dedupe" | "append" | "rebuild")
 }
