@@ -1,5 +1,5 @@
 -- What a JSON value says as a document: raw parts and a plan, or its fault. This library's own.
-use Rattle.std.specs.Prelude.{◌≡◌, ℕ, ℤ, Bool, true, false, if◌then◌else◌, List, [], codes, Option, None, Some, option_map, option_and_then, Result, Ok, Err, ⊤}
+use Rattle.std.specs.Prelude.{◌≡◌, ℕ, Bool, true, false, if◌then◌else◌, List, [], ◌∷◌, find, codes, Option, None, Some, option_map, option_and_then, Result, Ok, Err, ⊤}
 use Rattle.std.specs.Option.{ok_or}
 use Rattle.std.specs.Str.{bytes_eq}
 use Rattle.serde_json.specs.Data.{Data, null}
@@ -9,6 +9,7 @@ use Rattle.column_relayout.specs.declared.columns.RawColumn.TheVariants.{Offset3
 use Rattle.column_relayout.specs.declared.kind.Kind.{Kind}
 use Rattle.column_relayout.specs.declared.kind.Kind.TheVariants.{Binary32, Binary64, Utf8_32, Utf8_64}
 use Rattle.column_relayout.specs.declared.steps.Step.{Step}
+use Rattle.column_relayout.specs.Kinds.{kind_of, kind_name}
 use Rattle.column_document.specs.declared.field.Field.{Field}
 use Rattle.column_document.specs.declared.field.Field.TheVariants as field
 use Rattle.column_document.specs.declared.field.DocFault.{DocFault}
@@ -50,14 +51,9 @@ Err fault >>= f = Err fault
 abbrev pub needed : {T : Type 0} → Field → (Data → Option T) → Data → Result T DocFault
 needed field of document = ok_or (option_and_then of (get (field_name field) document)) (BadField field)
 
--- `kind`: the word for a kind that is built
+-- `kind`: the name of a kind that is built
 abbrev pub kind_named : List ℕ → Option Kind
-kind_named word =
-    if bytes_eq word (codes "binary32") then Some Binary32
-    else if bytes_eq word (codes "binary64") then Some Binary64
-    else if bytes_eq word (codes "utf8_32") then Some Utf8_32
-    else if bytes_eq word (codes "utf8_64") then Some Utf8_64
-    else None
+kind_named word = find (λ kind. bytes_eq word (kind_name (kind_of kind))) (Binary32 ∷ Binary64 ∷ Utf8_32 ∷ Utf8_64 ∷ [])
 
 abbrev pub kind_from : Data → Option Kind
 kind_from value = option_and_then kind_named (as_str value)
@@ -81,10 +77,10 @@ plan_of document = ok_or (optional_steps (get (field_name field.Plan) document))
 
 -- ---- the document
 
--- parts with offsets: `offsets`, each a number of its kind, `values` and `validity`
-abbrev pub offset_parts : (Data → Option ℤ) → (List ℤ → List ℕ → Option (List Bool) → RawColumn) → Data → Result RawColumn DocFault
-offset_parts offset made document = do
-  offsets ← needed field.Offsets (list_of offset) document
+-- parts with offsets: `offsets`, each such a number, `values` and `validity`
+abbrev pub offset_parts : {O : Type 0} → (Data → Option O) → (List O → List ℕ → Option (List Bool) → RawColumn) → Data → Result RawColumn DocFault
+offset_parts number made document = do
+  offsets ← needed field.Offsets (list_of number) document
   values ← needed field.Values hex_of document
   validity ← validity_of document
   Ok (made offsets values validity)

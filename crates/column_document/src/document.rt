@@ -2,12 +2,11 @@
 
 ghost use Rattle.std.specs.Prelude.{◌≡◌, ◌≢◌};
 ghost use Rattle.serde_json.specs.View.{view};
-ghost use Rattle.column_relayout.specs.declared.columns.RawColumn.TheVariants.{Offset32, Offset64};
-ghost use Rattle.column_document.specs.Values.{i32_of, i64_of};
 ghost use Rattle.column_document.specs.Document.{ReadsFields, ReadsFieldsAs, error_at, needed, kind_from, validity_of, plan_of, parts_of, offset_parts, document, document_of};
 
 use crate::field::{DocError, DocFault, Field};
 use crate::from_json::{FromJson, Unread, read_list};
+use crate::offset_number::OffsetNumber;
 use crate::unbuilt::has_unbuilt_word;
 use column_relayout::{Kind, RawColumn, Step};
 use column_storage::Bitmap;
@@ -16,10 +15,19 @@ use std::alloc::Global;
 
 /// The raw parts and the plan of a document.
 ///
+/// The fields, in the order in which they are read; other fields are ignored:
+/// - `kind`: `binary32`, `binary64`, `utf8_32` or `utf8_64`; the last two give texts.
+/// - `offsets`: whole numbers, within `i32` or `i64` by the kind.
+/// - `values`: bytes, as hexadecimal digits in pairs, in either case.
+/// - `validity`: missing, null, or a flag for each slot, where true is valid.
+/// - `plan`: missing, or steps: `["slice", first, count]`, `["left", count]`, `["right", first]`, `["to_utf8"]` and
+///   `["to_binary"]`. The numbers count slots, and are whole numbers from 0 to 2^64 - 1.
+///
+/// `Unbuilt` where the kind or the first element of an array in the plan is a word that is not built yet, whatever
+/// else the document has. Or else `BadField` with the first field that is missing or bad. `Json` never comes.
+/// `NoMemory` may come where a growth finds none.
+///
 /// Takes time and memory by the length of the fields that are read; each list is decoded once, into its own memory.
-/// `Unbuilt` where the kind or the first element of an array in the plan is a word that is not built yet, or else
-/// `BadField` with the first field that is missing or bad, in the order kind, offsets, values, validity, plan. Other
-/// fields are ignored. `Json` never comes, and `NoMemory` may come where a growth finds none.
 #[tactic(auto, unfolding(crate::specs::Document::document_of))]
 pub fn read_document(alloc: Global, value: &Value) -> Result<(RawColumn, Vec<Step>), DocError>
     ensures said { ReadsFieldsAs (λ read. document read.0 read.1.items) result (document_of (view value.now)) }
@@ -38,39 +46,25 @@ fn read_parts(alloc: Global, document: &Value, kind: Kind) -> Result<RawColumn, 
     ensures said { ReadsFields result (parts_of kind (view document.now)) }
 {
     match kind {
-        Kind::Binary32 => read_short_parts(alloc, document, false),
-        Kind::Binary64 => read_long_parts(alloc, document, false),
-        Kind::Utf8_32 => read_short_parts(alloc, document, true),
-        Kind::Utf8_64 => read_long_parts(alloc, document, true),
+        Kind::Binary32 => read_offset_parts::<i32>(alloc, document, false),
+        Kind::Binary64 => read_offset_parts::<i64>(alloc, document, false),
+        Kind::Utf8_32 => read_offset_parts::<i32>(alloc, document, true),
+        Kind::Utf8_64 => read_offset_parts::<i64>(alloc, document, true),
     }
 }
 
-fn read_short_parts(alloc: Global, document: &Value, text: bool) -> Result<RawColumn, DocError>
-    ensures said { ReadsFields result (offset_parts i32_of (Offset32 text) (view document.now)) }
+/// The parts of a kind with offsets.
+fn read_offset_parts<O: OffsetNumber>(
+    alloc: Global,
+    document: &Value,
+    text: bool,
+) -> Result<RawColumn, DocError>
+    ensures { ReadsFields result (offset_parts O.of (O.made text) (view document.now)) }
 {
     let offsets = needed(alloc, document, Field::Offsets)?;
     let values = needed(alloc, document, Field::Values)?;
     let validity = read_validity(alloc, document)?;
-    Ok(RawColumn::Offset32 {
-        text,
-        offsets,
-        values,
-        validity,
-    })
-}
-
-fn read_long_parts(alloc: Global, document: &Value, text: bool) -> Result<RawColumn, DocError>
-    ensures said { ReadsFields result (offset_parts i64_of (Offset64 text) (view document.now)) }
-{
-    let offsets = needed(alloc, document, Field::Offsets)?;
-    let values = needed(alloc, document, Field::Values)?;
-    let validity = read_validity(alloc, document)?;
-    Ok(RawColumn::Offset64 {
-        text,
-        offsets,
-        values,
-        validity,
-    })
+    Ok(O::parts(text, offsets, values, validity))
 }
 
 fn read_validity(alloc: Global, document: &Value) -> Result<Option<Bitmap>, DocError>

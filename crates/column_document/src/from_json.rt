@@ -142,18 +142,10 @@ fn to_bitmap(alloc: Global, flags: Vec<bool>) -> Result<Bitmap, Unread>
     }
 }
 
-impl FromJson for Buffer<i32> {
-    ghost of = { list_of i32_of };
+impl<T: FromJson + Copy> FromJson for Buffer<T> {
+    ghost of = { list_of T.of };
 
-    fn from_json(alloc: Global, value: &Value) -> Result<Buffer<i32>, Unread> {
-        to_buffer(alloc, read_list(alloc, value)?)
-    }
-}
-
-impl FromJson for Buffer<i64> {
-    ghost of = { list_of i64_of };
-
-    fn from_json(alloc: Global, value: &Value) -> Result<Buffer<i64>, Unread> {
+    fn from_json(alloc: Global, value: &Value) -> Result<Buffer<T>, Unread> {
         to_buffer(alloc, read_list(alloc, value)?)
     }
 }

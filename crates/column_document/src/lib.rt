@@ -4,6 +4,7 @@
 mod document;
 mod field;
 mod from_json;
+mod offset_number;
 mod steps;
 #[cfg(test)]
 mod tests;
