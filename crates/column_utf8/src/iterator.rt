@@ -69,3 +69,17 @@ impl<O: Offset + 'static> Utf8Array<O> {
         NonNullValuesIter::new(self, self.validity())
     }
 }
+
+impl<'a, O: Offset + 'static> IntoIterator for &'a Utf8Array<O> {
+    type Item = Option<&'a str>;
+
+    type IntoIter = ZipValidity<&'a str, Utf8ValuesIter<'a, O>, BitmapIter<'a>>;
+
+    // the rows, first to last
+    ghost into_iter_gives = { λ array it. (⟦<ZipValidity<&'a str, ArrayValuesIter<'a, Utf8Array<O>>, BitmapIter<'a>> as Listed>⟧.rest it ≡ rows_of (offset_slots array.now))
+        × ⟦<ZipValidity<&'a str, ArrayValuesIter<'a, Utf8Array<O>>, BitmapIter<'a>> as Iterator>⟧.can_next it };
+
+    fn into_iter(self) -> ZipValidity<&'a str, Utf8ValuesIter<'a, O>, BitmapIter<'a>> {
+        self.iter()
+    }
+}
