@@ -291,7 +291,10 @@ fn what_is_no_document_is_told(rt: HostRuntime) -> Result<(), Fail> {
             "document field plan\n",
         ),
         (br#"{"kind":"fixed"}"#, "document unbuilt\n"),
-        (br#"{"kind":"utf8_32","plan":[["gc"]]}"#, "document unbuilt\n"),
+        (
+            br#"{"kind":"utf8_32","plan":[["gc"]]}"#,
+            "document unbuilt\n",
+        ),
     ];
     for (document, text) in table {
         expect(&rt, document, 2, text)?;

@@ -244,7 +244,26 @@ sound_where_fine lists type sound none =
       flagged = flagged_where lists.flags (length lists.offsets) sound.not_empty parts.1;
     }
 
+-- ---- what the slots are
+
+pub offsets_are : (lists : OffsetLists) → AreSoundLists lists → length lists.offsets ≡ slot_count lists + 1
+offsets_are lists sound = let some = sound.sound.not_empty in omega arith
+
+pub flags_are : (lists : OffsetLists) → AreSoundLists lists → length (flags_of (slot_count lists) lists.flags) ≡ slot_count lists
+flags_are lists sound = length-flags_of lists.flags (slot_count lists) (flags_all lists sound)
+
+pub same_slots : (a b : OffsetLists) → a.offsets ≡ b.offsets → a.values ≡ b.values → flags_of (slot_count a) a.flags ≡ flags_of (slot_count b) b.flags → offset_slots a ≡ offset_slots b
+unfolding offset_slots
+same_slots a b offsets values flags =
+    ap (λ (fs : List Bool). slots_by fs (pieces a.offsets a.values)) flags
+    ∙ ap (λ (ns : List ℤ). slots_by (flags_of (slot_count b) b.flags) (pieces ns a.values)) offsets
+    ∙ ap (λ (vs : List ℕ). slots_by (flags_of (slot_count b) b.flags) (pieces b.offsets vs)) values
+
 -- ---- the law of slices
+
+pub flags-sliced : (lists : OffsetLists) (from n : ℕ) → AreSoundLists lists → from + n ≤ slot_count lists → flags_of n (sliced_lists lists from n).flags ≡ sublist (flags_of (slot_count lists) lists.flags) from n
+unfolding sliced_lists
+flags-sliced lists from n sound within = flags_of-sliced lists.flags (slot_count lists) from n (flags_all lists sound) within
 
 slot_at-drop : (slots : List Slot) (from i : ℕ) → slot_at (drop from slots) i ≡ slot_at slots (from + i)
 slot_at-drop slots zero i = let e : 0 + i ≡ i = omega arith in rw e refl

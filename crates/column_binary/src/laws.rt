@@ -1,9 +1,30 @@
-//! The law of slices, over the lists of an array with offsets.
+//! Laws of the lists of an array with offsets: what their slots are, and the law of slices.
 
-ghost use Rattle.std.specs.Prelude.{◌≡◌, ℕ, ◌+◌, ◌-◌, ◌<◌, ◌≤◌, ◌++◌};
+ghost use Rattle.std.specs.Prelude.{◌≡◌, ℕ, ◌+◌, ◌-◌, ◌<◌, ◌≤◌, ◌++◌, length};
 ghost use Rattle.column_base.specs.Lists.{sublist};
 ghost use Rattle.column_base.specs.Slots.{slot_at};
+ghost use Rattle.column_storage.specs.Bits.{flags_of};
 ghost use Rattle.column_binary.specs.Slots.{OffsetLists, slot_count, offset_slots, sliced_lists, AreSoundLists};
+
+/// There are as many slots as are counted, one offset more, and as many flags.
+pub fn slots_are_counted()
+    ensures slots { (lists : OffsetLists) → AreSoundLists lists → length (offset_slots lists) ≡ slot_count lists }
+    ensures offsets { (lists : OffsetLists) → AreSoundLists lists → length lists.offsets ≡ slot_count lists + 1 }
+    ensures flags { (lists : OffsetLists) → AreSoundLists lists → length (flags_of (slot_count lists) lists.flags) ≡ slot_count lists }
+{}
+
+/// Lists with the same offsets, the same value bytes and the same flags, as they are read, have the same slots.
+pub fn same_lists_same_slots()
+    ensures { (a b : OffsetLists) → a.offsets ≡ b.offsets → a.values ≡ b.values
+        → flags_of (slot_count a) a.flags ≡ flags_of (slot_count b) b.flags
+        → offset_slots a ≡ offset_slots b }
+{}
+
+/// The flags that are read of a slice are those of its slots.
+pub fn flags_of_slice()
+    ensures { (lists : OffsetLists) (from n : ℕ) → AreSoundLists lists → from + n ≤ slot_count lists
+        → flags_of n (sliced_lists lists from n).flags ≡ sublist (flags_of (slot_count lists) lists.flags) from n }
+{}
 
 /// The slots of a slice are those that it names.
 pub fn slice_is_part()

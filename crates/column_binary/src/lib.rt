@@ -7,7 +7,10 @@ mod laws;
 
 pub use array::BinaryArray;
 pub use iterator::BinaryValueIter;
-pub use laws::{slice_is_part, slices_are_one, slot_of_slice, split_is_whole};
+pub use laws::{
+    flags_of_slice, same_lists_same_slots, slice_is_part, slices_are_one, slot_of_slice,
+    slots_are_counted, split_is_whole,
+};
 
 #[cfg(test)]
 mod tests;

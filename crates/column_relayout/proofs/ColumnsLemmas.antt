@@ -1,20 +1,19 @@
 -- Columns that are well formed, and the flags of their parts.
-use Rattle.std.proofs.Common.{◌≡◌, ℕ, ◌+◌, ◌-◌, ◌≤◌, ℤ, Bool, true, false, List, length, take, drop, replicate, Option, Some, None, IfSome, refl, sym, ◌∙◌, ap, subst, arith}
+use Rattle.std.proofs.Common.{◌≡◌, ℕ, ◌+◌, ◌-◌, ◌≤◌, Bool, true, false, List, length, take, replicate, Option, Some, None, refl, sym, ◌∙◌, ap, arith}
 use Rattle.std.proofs.Math.Seq.{take-length}
 use Rattle.std.proofs.lemmas.List.{take-replicate, drop-replicate}
 use Rattle.column_base.specs.declared.errors.Cause.{Cause}
 use Rattle.column_base.specs.Answers.{◌or_else◌}
 use Rattle.column_base.specs.Kinds.{ColumnKind}
 use Rattle.column_base.specs.Lists.{sublist}
-use Rattle.column_base.specs.Slots.{slots_by}
 use Rattle.column_storage.specs.Bits.{flags_of}
-use Rattle.column_offset.specs.Text.{pieces}
 use Rattle.column_binary.specs.Types as binary
-use Rattle.column_binary.specs.Slots.{OffsetLists, slot_count, offset_slots, AreSoundLists}
+use Rattle.column_binary.specs.Slots.{OffsetLists, AreSoundLists}
+use Rattle.column_binary.proofs.SlotsLemmas.{same_slots}
 use Rattle.column_utf8.specs.Types as text
 use Rattle.column_utf8.specs.Texts.{AreSoundTexts}
 use Rattle.column_relayout.specs.Kinds.{is_text}
-use Rattle.column_relayout.specs.Columns.{RawLists, raw_lists, slots_of, count_of, IsWellFormed, AreAlike}
+use Rattle.column_relayout.specs.Columns.{RawLists, raw_lists, slots_of, IsWellFormed, AreAlike}
 use Rattle.column_relayout.specs.Plans.{part_flags}
 
 -- ---- well-formed columns
@@ -58,17 +57,13 @@ flags_of-part None n from k within = sym (replicate-sublist n from k within)
 flags_of-part (Some bits) n from k within = refl
 
 -- the part that has all slots
-pub flags_of-whole : (flags : Option (List Bool)) (n : ℕ) → IfSome flags (λ bits. length bits ≡ n) → flags_of n flags ≡ flags_of n (part_flags flags 0 n)
+pub flags_of-whole : (flags : Option (List Bool)) (n : ℕ) → length (flags_of n flags) ≡ n → flags_of n flags ≡ flags_of n (part_flags flags 0 n)
 flags_of-whole None n all = refl
 flags_of-whole (Some bits) n all = sym (ap (λ k. take k bits) (sym all) ∙ take-length bits)
 
 -- ---- columns that are alike
 
 pub alike_slots : (a b : RawLists) → AreAlike a b → slots_of a ≡ slots_of b
-unfolding offset_slots
-alike_slots a b alike =
-    ap (λ (flags : List Bool). slots_by flags (pieces a.lists.offsets a.lists.values)) alike.flags
-    ∙ ap (λ (offsets : List ℤ). slots_by (flags_of (count_of b) b.lists.flags) (pieces offsets a.lists.values)) alike.offsets
-    ∙ ap (λ (values : List ℕ). slots_by (flags_of (count_of b) b.lists.flags) (pieces b.lists.offsets values)) alike.values
+alike_slots a b alike = same_slots a.lists b.lists alike.offsets alike.values alike.flags
 
 pub ruleset columns = (bytes_well_formed, texts_well_formed)

@@ -1,6 +1,5 @@
 -- How far a plan has come: the facts that a loop over its steps keeps.
-use Rattle.std.proofs.Common.{◌≡◌, ℕ, ◌+◌, ◌-◌, ◌<◌, ◌≤◌, Bool, true, false, List, [], ◌∷◌, ◌++◌, length, take, drop, fold, get_or, Option, Some, None, IfSome, MatchBool, refl, sym, ◌∙◌, ap, subst, arith}
-use Rattle.std.proofs.Math.Seq.{take-length}
+use Rattle.std.proofs.Common.{◌≡◌, ℕ, ◌+◌, ◌-◌, ◌<◌, ◌≤◌, Bool, true, false, List, [], ◌∷◌, ◌++◌, length, take, drop, fold, get_or, Option, Some, None, MatchBool, refl, sym, ◌∙◌, ap, subst, arith}
 use Rattle.std.proofs.lemmas.List.{at_drop_more, at_drop_all, drop_more, take_more, take_all}
 use Rattle.std.proofs.lemmas.List.Sums.{fold_more}
 use Rattle.column_base.specs.declared.errors.Cause.{Cause}
@@ -13,7 +12,7 @@ use Rattle.column_storage.specs.Bits.{flags_of}
 use Rattle.column_relayout.specs.Columns.{RawLists, slots_of, count_of, IsWellFormed, AreAlike}
 use Rattle.column_relayout.specs.Plans.{step_fault, kind_after, slots_after, leads, faults, at_fault, meaning_from, plan_meaning, is_light, IsLight, ReachesHeavy, span_after, span_of, part_flags, part_of, light_lists}
 use Rattle.column_relayout.specs.Steps.{StepsTo}
-use Rattle.column_binary.proofs.SlotsLemmas.{length-offset_slots}
+use Rattle.column_binary.proofs.SlotsLemmas.{length-offset_slots, offsets_are}
 use Rattle.column_relayout.proofs.ColumnsLemmas.{flags_of-part}
 use Rattle.column_relayout.proofs.StepsLemmas.{within_range, whole_alike}
 
@@ -97,7 +96,8 @@ span_within kind slots ToBinary none = omega arith
 pub part_step : (start now new : RawLists) (kind : ColumnKind) (span : ℕ × ℕ) (step : Step) → IsWellFormed start → IsWellFormed now → IsPart now start kind span → StepsTo now step new → step_fault now.kind (slots_of now) step ≡ None → is_light step ≡ true → IsPart new start (kind_after kind step) (span_after span step)
 unfolding part_of
 part_step start now new kind (f, m) step first before part steps none light =
-    let some = first.sound.sound.not_empty in
+    let whole = offsets_are start.lists first.sound in
+    let some : 0 < length start.lists.offsets = omega arith in
     let counted : count_of now ≡ m = same_count now (part_of start kind (f, m)) part.alike ∙ part_count start kind f m some part.within in
     let slots : length (slots_of now) ≡ m = length-offset_slots now.lists before.sound ∙ counted in
     let same_kind : now.kind ≡ kind = part.alike.kinds in

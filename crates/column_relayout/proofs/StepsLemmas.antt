@@ -1,21 +1,19 @@
 -- One step, over the lists of a column.
-use Rattle.std.proofs.Common.{◌≡◌, ℕ, ◌+◌, ◌-◌, ◌<◌, ◌≤◌, Bool, true, false, not, nat_lt, List, length, take, drop, Option, Some, None, IfSome, refl, sym, ◌∙◌, ap, subst, arith}
+use Rattle.std.proofs.Common.{◌≡◌, ℕ, ◌+◌, ◌-◌, ◌<◌, ◌≤◌, Bool, true, false, nat_lt, List, length, take, drop, Some, None, refl, sym, ◌∙◌, ap, arith}
 use Rattle.std.proofs.Math.Seq.{take-length}
 use Rattle.std.proofs.lemmas.Bool.Decides.{nat_tests}
 use Rattle.std.proofs.lemmas.List.{length-drop}
 use Rattle.column_base.specs.declared.errors.Cause.{Cause}
 use Rattle.column_base.specs.declared.errors.Cause.TheVariants.{StepRange, WrongKind}
-use Rattle.column_base.specs.Answers.{cause_if, ◌or_else◌}
+use Rattle.column_base.specs.Answers.{cause_if}
 use Rattle.column_base.specs.Kinds.{Slot, ColumnKind}
 use Rattle.column_base.specs.Lists.{sublist}
 use Rattle.column_base.specs.Slots.{values_of}
 use Rattle.column_base.proofs.ListsLemmas.{length-sublist}
 use Rattle.column_storage.specs.Bits.{flags_of, sliced_flags}
-use Rattle.column_storage.proofs.FlagsLemmas.{flags_of-sliced}
 use Rattle.column_offset.specs.Text.{texts_fault}
 use Rattle.column_binary.specs.Slots.{OffsetLists, slot_count, offset_slots, sliced_lists, AreSoundLists}
-use Rattle.column_binary.proofs.SlotsLemmas.{flags_all}
-use Rattle.column_relayout.specs.declared.steps.Step.{Step}
+use Rattle.column_binary.proofs.SlotsLemmas.{offsets_are, flags_are, flags-sliced}
 use Rattle.column_relayout.specs.declared.steps.Step.TheVariants.{Slice, Left, Right, ToUtf8, ToBinary}
 use Rattle.column_relayout.specs.Kinds.{is_text, is_binary, text_kind, binary_kind}
 use Rattle.column_relayout.specs.Columns.{raw_lists, IsWellFormed, AreAlike}
@@ -57,7 +55,7 @@ range_passes count end past = let outside : nat_lt count end ≡ true = grind (a
 sliced_alike : (kind : ColumnKind) (lists : OffsetLists) (from n : ℕ) → AreSoundLists lists → from + n ≤ slot_count lists → AreAlike (raw_lists kind (sliced_lists lists from n)) (part_of (raw_lists kind lists) kind (from, n))
 unfolding sliced_lists part_of
 sliced_alike kind lists from n sound within =
-    let some = sound.sound.not_empty in
+    let count = offsets_are lists sound in
     let size = length-sublist lists.offsets from (n + 1) (omega arith) in
     let few : length (sublist lists.offsets from (n + 1)) - 1 ≡ n = omega arith in
     record {
@@ -66,7 +64,7 @@ sliced_alike kind lists from n sound within =
       values = refl;
       flags =
           ap (λ (k : ℕ). flags_of k (sliced_flags lists.flags from n)) few
-          ∙ flags_of-sliced lists.flags (slot_count lists) from n (flags_all lists sound) within
+          ∙ flags-sliced lists from n sound within
           ∙ sym (flags_of-part lists.flags (slot_count lists) from n within)
           ∙ ap (λ (k : ℕ). flags_of k (part_flags lists.flags from n)) (sym few);
     }
@@ -128,16 +126,15 @@ not_texts kind slots other = rw other refl
 pub whole_alike : (kind other : ColumnKind) (lists : OffsetLists) → AreSoundLists lists → AreAlike (raw_lists other lists) (part_of (raw_lists kind lists) other (0, slot_count lists))
 unfolding part_of
 whole_alike kind other lists sound =
-    let some = sound.sound.not_empty in
     let n = slot_count lists in
-    let all : n + 1 ≡ length lists.offsets = omega arith in
+    let all : n + 1 ≡ length lists.offsets = sym (offsets_are lists sound) in
     let offsets : take (n + 1) lists.offsets ≡ lists.offsets = ap (λ k. take k lists.offsets) all ∙ take-length lists.offsets in
     record {
       kinds = refl;
       offsets = sym offsets;
       values = refl;
       flags =
-          flags_of-whole lists.flags n (flags_all lists sound)
+          flags_of-whole lists.flags n (flags_are lists sound)
           ∙ ap (λ ns. flags_of (length ns - 1) (part_flags lists.flags 0 n)) (sym offsets);
     }
 

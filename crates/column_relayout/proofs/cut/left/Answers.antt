@@ -1,6 +1,5 @@
 -- The first slots are a slice.
-use Rattle.std.proofs.Common.{◌≡◌, ◌≤◌, ◌∙◌, arith}
-use Rattle.column_binary.specs.Slots.{offset_slots}
+use Rattle.std.proofs.Common.{◌≤◌, ◌∙◌, arith}
 use Rattle.column_relayout.proofs.StepsLemmas.{left_fault, range_fits, left_steps}
 use Rattle.column_relayout.proofs.cut.left.Goals as goal
 
