@@ -1,6 +1,9 @@
 //! Each call once, with ample memory, against lists that were written down by hand.
 
-use crate::{BinaryArray, slice_is_part, slices_are_one, slot_of_slice, split_is_whole};
+use crate::{
+    BinaryArray, flags_of_slice, same_lists_same_slots, slice_is_part, slices_are_one,
+    slot_of_slice, slots_are_counted, split_is_whole,
+};
 use column_base::{ArrowDataType, Cause, Offset, PolarsError, Splitable};
 use column_offset::OffsetsBuffer;
 use column_storage::{ArrayAccessor, ArrayValuesIter, Bitmap, Buffer};
@@ -415,6 +418,9 @@ fn slices_follow_one_another(rt: HostRuntime) -> Result<(), Fail> {
     assert_eq!(rt; array.len(), 2);
     let empty = array.sliced(2, 0).sliced_unchecked(0, 0);
     assert_lists(&rt, &empty, &[6], b"xabcdeyz", None);
+    slots_are_counted();
+    same_lists_same_slots();
+    flags_of_slice();
     slice_is_part();
     slot_of_slice();
     slices_are_one();

@@ -2,8 +2,8 @@
 
 use crate::Step::{Left, Right, Slice, ToBinary, ToUtf8};
 use crate::{
-    AnyArray, ColumnError, Kind, RawColumn, Step, assemble, relayout, step_left, step_right,
-    step_slice, step_to_binary, step_to_utf8,
+    AnyArray, ColumnError, Kind, RawColumn, Step, alike_slots, assemble, relayout, step_left,
+    step_right, step_slice, step_to_binary, step_to_utf8,
 };
 use column_base::{Cause, PolarsError};
 use column_storage::{Bitmap, Buffer};
@@ -185,6 +185,7 @@ fn kinds_have_words(rt: HostRuntime) {
     for (kind, word) in kinds().iter().zip(words.iter()) {
         assert_eq!(rt; kind.name().as_bytes(), *word);
     }
+    alike_slots();
 }
 
 #[test]
