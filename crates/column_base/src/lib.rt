@@ -16,7 +16,4 @@ pub use lists::{slice_reads, slices_are_one, split_is_whole};
 pub use native::NativeType;
 pub use offset::Offset;
 pub use splitable::Splitable;
-pub use utf8::{is_utf8, text_of, utf8_cut, utf8_is_text};
-
-#[cfg(test)]
-mod tests;
+pub use utf8::{is_utf8, str_of, utf8_cut, utf8_is_text};

@@ -9,7 +9,7 @@ use crate::native::NativeType;
 pub trait Offset: NativeType + Ord {
     ghost use Rattle.std.specs.Prelude.{◌≡◌, ℕ, ◌<◌, ◌≤◌, ℤ, pos, ◌+ℤ◌, ◌≤ℤ◌, Bool, ◌↔◌, IsSome, IsNone, IfSome, IsTrue};
     ghost use Rattle.std.specs.Ordering.{int_cmp, int_eq};
-    ghost use Rattle.column_base.specs.Integers.{LiesWithin};
+    ghost use Rattle.column_base.specs.Integers.{LiesWithin, greatest_offset};
 
     // the number
     ghost int: { Self → ℤ };
@@ -45,6 +45,8 @@ pub trait Offset: NativeType + Ord {
         ensures within { IsSome result ↔ LiesWithin GREATEST (int self.now +ℤ int other.now) }
         ensures sum { IfSome result (λ offset. int offset ≡ int self.now +ℤ int other.now) };
 
+    ghost greatest: { greatest_offset Self.IS_LARGE ≡ Self.GREATEST };
+
     ghost zero_is: { int Self.zero_value ≡ pos 0 };
 
     ghost exact: { (a b : Self) → int a ≡ int b → a ≡ b };
@@ -62,6 +64,8 @@ impl Offset for i32 {
     ghost GREATEST = { 2147483647 };
 
     ghost IS_LARGE = { false };
+
+    ghost greatest = { refl };
 
     ghost zero_is = { refl };
 
@@ -104,6 +108,8 @@ impl Offset for i64 {
     ghost GREATEST = { 9223372036854775807 };
 
     ghost IS_LARGE = { true };
+
+    ghost greatest = { refl };
 
     ghost zero_is = { refl };
 

@@ -1,6 +1,7 @@
 //! Lists of slots that can be cut in two.
 
 use crate::errors::PolarsError;
+use std::alloc::Global;
 
 /// A list of slots that can be cut in two, with both parts sharing the memory of the whole.
 pub trait Splitable: Sized {
@@ -23,15 +24,15 @@ pub trait Splitable: Sized {
     /// The slots before a place, and those from it on.
     ///
     /// Copies no slot. `NoMemory` where the parts cannot be shared.
-    fn split_at(&self, offset: usize) -> Result<(Self, Self), PolarsError>
+    fn split_at(&self, alloc: Global, offset: usize) -> Result<(Self, Self), PolarsError>
         requires { offset ≤ slot_count self.now }
         ensures { Answers result None (λ parts. (parts.0 ≡ front self.now offset) × (parts.1 ≡ back self.now offset)) };
 
     /// The same as [`Splitable::split_at`].
-    fn split_at_unchecked(&self, offset: usize) -> Result<(Self, Self), PolarsError>
+    fn split_at_unchecked(&self, alloc: Global, offset: usize) -> Result<(Self, Self), PolarsError>
         requires { offset ≤ slot_count self.now }
         ensures { Answers result None (λ parts. (parts.0 ≡ front self.now offset) × (parts.1 ≡ back self.now offset)) }
     {
-        self.split_at(offset)
+        self.split_at(alloc, offset)
     }
 }

@@ -14,7 +14,7 @@ pub fn is_utf8(bytes: &[u8]) -> bool
 }
 
 /// UTF-8 as text. Takes no memory and no time.
-pub fn text_of(bytes: &[u8]) -> &str
+pub fn str_of(bytes: &[u8]) -> &str
     requires { IsWellFormedUtf8 bytes.now }
     ensures { result.now ≡ bytes.now }
 {

@@ -138,13 +138,13 @@ impl<O: Offset> BinaryArray<O> {
     /// The same column, which shares the memory of this one.
     ///
     /// Copies no slot and takes no memory. `NoMemory` where a count of owners is full.
-    pub fn try_clone(&self) -> Result<Self, PolarsError>
+    pub fn try_clone(&self, alloc: Global) -> Result<Self, PolarsError>
         ensures { Answers result None (λ a. a ≡ self.now) }
     {
         Ok(BinaryArray {
-            offsets: self.offsets.try_clone()?,
-            values: self.values.try_clone()?,
-            validity: clone_validity(self.validity.as_ref())?,
+            offsets: self.offsets.try_clone(alloc)?,
+            values: self.values.try_clone(alloc)?,
+            validity: clone_validity(alloc, self.validity.as_ref())?,
         })
     }
 
@@ -353,9 +353,9 @@ impl<O: Offset> Splitable for BinaryArray<O> {
         offset <= self.len()
     }
 
-    fn split_at(&self, offset: usize) -> Result<(Self, Self), PolarsError> {
-        let front = self.try_clone()?.sliced(0, offset);
-        let back = self.try_clone()?.sliced(offset, self.len() - offset);
+    fn split_at(&self, alloc: Global, offset: usize) -> Result<(Self, Self), PolarsError> {
+        let front = self.try_clone(alloc)?.sliced(0, offset);
+        let back = self.try_clone(alloc)?.sliced(offset, self.len() - offset);
         Ok((front, back))
     }
 }
@@ -402,11 +402,11 @@ fn is_binary(dtype: ArrowDataType, is_large: bool) -> bool
 }
 
 /// The same validity, which shares its memory.
-fn clone_validity(validity: Option<&Bitmap>) -> Result<Option<Bitmap>, PolarsError>
+fn clone_validity(alloc: Global, validity: Option<&Bitmap>) -> Result<Option<Bitmap>, PolarsError>
     ensures { Answers result None (λ copy. copy ≡ option_copied validity.entry) }
 {
     match validity {
-        Some(bits) => Ok(Some(bits.try_clone()?)),
+        Some(bits) => Ok(Some(bits.try_clone(alloc)?)),
         None => Ok(None),
     }
 }

@@ -8,14 +8,14 @@ ghost use Rattle.column_binary.specs.Slots.{offset_slots};
 use crate::array::BinaryArray;
 use column_base::Offset;
 use column_storage::{
-    ArrayAccessor, ArrayValuesIter, BitmapIter, Buffer, Listed, NonNullValuesIter, Slots,
+    ArrayAccessor, ArrayValuesIter, BitmapIter, Buffer, Listed, NonNullValuesIter, Values,
     ZipValidity,
 };
 
 /// The bytes of each slot that is left of an array, of null ones too.
 pub type BinaryValueIter<'a, O> = ArrayValuesIter<'a, BinaryArray<O>>;
 
-impl<O: Offset> Slots for BinaryArray<O> {
+impl<O: Offset> Values for BinaryArray<O> {
     ghost use Rattle.column_base.specs.Slots.{values_of};
     ghost use Rattle.column_binary.specs.Slots.{offset_slots};
 

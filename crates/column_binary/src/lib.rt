@@ -11,6 +11,3 @@ pub use laws::{
     flags_of_slice, same_lists_same_slots, slice_is_part, slices_are_one, slot_of_slice,
     slots_are_counted, split_is_whole,
 };
-
-#[cfg(test)]
-mod tests;

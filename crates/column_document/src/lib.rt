@@ -6,8 +6,6 @@ mod field;
 mod from_json;
 mod offset_number;
 mod steps;
-#[cfg(test)]
-mod tests;
 mod unbuilt;
 
 pub use document::read_document;

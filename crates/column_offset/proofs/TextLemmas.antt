@@ -5,15 +5,15 @@ use Rattle.std.specs.List.{concat}
 use Rattle.std.proofs.lemmas.Int.{ints}
 use Rattle.std.proofs.lemmas.Bool.{and_parts}
 use Rattle.std.proofs.lemmas.Bool.Decides.{nat_tests}
-use Rattle.std.proofs.lemmas.List.{length-drop}
+use Rattle.std.proofs.lemmas.List.{length-drop, drop-drop, drop-take}
 use Rattle.column_base.specs.declared.errors.Cause.{Cause}
 use Rattle.column_base.specs.declared.errors.Cause.TheVariants.{OffsetsExceedValues, InvalidUtf8, CharBoundary}
 use Rattle.column_base.specs.Answers.{◌or_else◌, cause_if}
 use Rattle.column_base.specs.Utf8.{is_well_formed_utf8, IsWellFormedUtf8}
-use Rattle.column_base.proofs.ListsLemmas.{take-take, drop-drop, drop-take}
+use Rattle.column_base.proofs.ListsLemmas.{take-take}
 use Rattle.column_base.proofs.Utf8Lemmas.{well_formed-append}
 use Rattle.column_offset.specs.Offsets.{nat_of, offset_at, last_of, AreSoundOffsets, bounds_fault}
-use Rattle.column_offset.specs.Text.{pieces, are_well_formed_utf8, texts_fault, text_fault}
+use Rattle.column_offset.specs.Text.{pieces, are_well_formed_utf8, texts_fault, cut_fault}
 use Rattle.column_offset.proofs.OffsetsLemmas.{nat_of_order, places_in_order, from_zero}
 
 -- ---- a loop over slots
@@ -103,20 +103,20 @@ pub no_texts_fault : (texts : List (List ℕ)) → are_well_formed_utf8 texts �
 unfolding texts_fault
 no_texts_fault texts all = rw (concat_well_formed texts all, all) refl
 
-pub text_sound : (offsets : List ℤ) (values : List ℕ) → bounds_fault offsets (length values) ≡ None → are_well_formed_utf8 (pieces offsets values) ≡ true → text_fault offsets values ≡ None
-unfolding text_fault
+pub text_sound : (offsets : List ℤ) (values : List ℕ) → bounds_fault offsets (length values) ≡ None → are_well_formed_utf8 (pieces offsets values) ≡ true → cut_fault offsets values ≡ None
+unfolding cut_fault
 text_sound offsets values within all = rw (within, no_texts_fault (pieces offsets values) all) refl
 
-pub text_bounds : (offsets : List ℤ) (values : List ℕ) (cause : Cause) → bounds_fault offsets (length values) ≡ Some cause → text_fault offsets values ≡ Some cause
-unfolding text_fault
+pub text_bounds : (offsets : List ℤ) (values : List ℕ) (cause : Cause) → bounds_fault offsets (length values) ≡ Some cause → cut_fault offsets values ≡ Some cause
+unfolding cut_fault
 text_bounds offsets values cause fault = rw fault refl
 
-pub text_invalid : (offsets : List ℤ) (values : List ℕ) → bounds_fault offsets (length values) ≡ None → is_well_formed_utf8 (concat (pieces offsets values)) ≡ false → text_fault offsets values ≡ Some InvalidUtf8
-unfolding text_fault texts_fault
+pub text_invalid : (offsets : List ℤ) (values : List ℕ) → bounds_fault offsets (length values) ≡ None → is_well_formed_utf8 (concat (pieces offsets values)) ≡ false → cut_fault offsets values ≡ Some InvalidUtf8
+unfolding cut_fault texts_fault
 text_invalid offsets values within bad = rw (within, bad) refl
 
-pub text_boundary : (offsets : List ℤ) (values : List ℕ) → bounds_fault offsets (length values) ≡ None → is_well_formed_utf8 (concat (pieces offsets values)) ≡ true → are_well_formed_utf8 (pieces offsets values) ≡ false → text_fault offsets values ≡ Some CharBoundary
-unfolding text_fault texts_fault
+pub text_boundary : (offsets : List ℤ) (values : List ℕ) → bounds_fault offsets (length values) ≡ None → is_well_formed_utf8 (concat (pieces offsets values)) ≡ true → are_well_formed_utf8 (pieces offsets values) ≡ false → cut_fault offsets values ≡ Some CharBoundary
+unfolding cut_fault texts_fault
 text_boundary offsets values within whole bad = rw (within, whole, bad) refl
 
 -- ---- each slot by itself
@@ -135,11 +135,11 @@ pub all_where_no_fault : (texts : List (List ℕ)) → texts_fault texts ≡ Non
 unfolding texts_fault
 all_where_no_fault texts none = last_test _ (are_well_formed_utf8 texts) CharBoundary none
 
-pub slots_decide : (offsets : List ℤ) (values : List ℕ) → AreSoundOffsets offsets → nat_of (last_of offsets) ≤ length values → (text_fault offsets values ≡ None) ↔ (are_well_formed_utf8 (pieces offsets values) ≡ true)
-unfolding text_fault
+pub slots_decide : (offsets : List ℤ) (values : List ℕ) → AreSoundOffsets offsets → nat_of (last_of offsets) ≤ length values → (cut_fault offsets values ≡ None) ↔ (are_well_formed_utf8 (pieces offsets values) ≡ true)
+unfolding cut_fault
 slots_decide offsets values sound within =
     let inside = bounded (last_of offsets) (length values) within in (
-      λ (none : text_fault offsets values ≡ None). all_where_no_fault (pieces offsets values) (subst (λ (first : Option Cause). (first or_else texts_fault (pieces offsets values)) ≡ None) inside none),
+      λ (none : cut_fault offsets values ≡ None). all_where_no_fault (pieces offsets values) (subst (λ (first : Option Cause). (first or_else texts_fault (pieces offsets values)) ≡ None) inside none),
       λ (all : are_well_formed_utf8 (pieces offsets values) ≡ true). text_sound offsets values inside all,
     )
 

@@ -25,5 +25,5 @@ texts_fault texts =
     or_else cause_if (not (are_well_formed_utf8 texts)) CharBoundary
 
 -- why the slots of sound offsets are no texts
-unfoldable pub text_fault : List ℤ → List ℕ → Option Cause
-text_fault offsets values = bounds_fault offsets (length values) or_else texts_fault (pieces offsets values)
+unfoldable pub cut_fault : List ℤ → List ℕ → Option Cause
+cut_fault offsets values = bounds_fault offsets (length values) or_else texts_fault (pieces offsets values)

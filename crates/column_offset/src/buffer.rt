@@ -251,11 +251,11 @@ impl<O: Offset> OffsetsBuffer<O> {
     /// The same list, which shares the memory of this one.
     ///
     /// Copies no offset and takes no memory. `NoMemory` where the count of owners is full.
-    pub fn try_clone(&self) -> Result<Self, PolarsError>
+    pub fn try_clone(&self, alloc: Global) -> Result<Self, PolarsError>
         ensures { Answers result None (λ b. b ≡ self.now) }
     {
         Ok(OffsetsBuffer {
-            offsets: self.offsets.try_clone()?,
+            offsets: self.offsets.try_clone(alloc)?,
         })
     }
 }
@@ -275,10 +275,10 @@ impl<O: Offset> Splitable for OffsetsBuffer<O> {
         offset <= self.len_proxy()
     }
 
-    fn split_at(&self, offset: usize) -> Result<(Self, Self), PolarsError> {
-        let mut front = self.try_clone()?;
+    fn split_at(&self, alloc: Global, offset: usize) -> Result<(Self, Self), PolarsError> {
+        let mut front = self.try_clone(alloc)?;
         front.slice(0, offset + 1);
-        let mut back = self.try_clone()?;
+        let mut back = self.try_clone(alloc)?;
         back.slice(offset, self.len() - offset);
         Ok((front, back))
     }

@@ -24,6 +24,3 @@ pub use keys::{IndexKey, check_indexes};
 pub use leaf::LeafRanges;
 pub use offsets::Offsets;
 pub use text::{slots_decide, try_check_utf8};
-
-#[cfg(test)]
-mod tests;

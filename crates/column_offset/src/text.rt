@@ -4,7 +4,7 @@ ghost use Rattle.std.specs.Prelude.{◌≡◌, ◌↔◌, ℕ, ℤ, ◌≤◌, �
 ghost use Rattle.std.specs.List.{concat};
 ghost use Rattle.column_base.specs.Answers.{Gives};
 ghost use Rattle.column_offset.specs.Offsets.{nat_of, offset_at, last_of, AreSoundOffsets};
-ghost use Rattle.column_offset.specs.Text.{pieces, are_well_formed_utf8, text_fault};
+ghost use Rattle.column_offset.specs.Text.{pieces, are_well_formed_utf8, cut_fault};
 
 use crate::checks::{place, try_check_offsets_bounds};
 use column_base::{Cause, Offset, PolarsError, is_utf8};
@@ -18,7 +18,7 @@ use column_base::{Cause, Offset, PolarsError, is_utf8};
 #[tactic(auto, using(crate::proofs::TextLemmas::texts))]
 pub fn try_check_utf8<O: Offset>(offsets: &[O], values: &[u8]) -> Result<(), PolarsError>
     requires { AreSoundOffsets (map O.int offsets.now) }
-    ensures { Gives result (text_fault (map O.int offsets.now) values.now) (λ _. ⊤) }
+    ensures { Gives result (cut_fault (map O.int offsets.now) values.now) (λ _. ⊤) }
 {
     try_check_offsets_bounds(offsets, values.len())?;
     if slots_are_utf8(offsets, values) {
@@ -35,7 +35,7 @@ pub fn try_check_utf8<O: Offset>(offsets: &[O], values: &[u8]) -> Result<(), Pol
 /// slot by itself is UTF-8, whatever stands before the first offset and after the last.
 pub fn slots_decide()
     ensures { (offsets : List ℤ) (values : List ℕ) → AreSoundOffsets offsets → nat_of (last_of offsets) ≤ length values
-        → (text_fault offsets values ≡ None) ↔ (are_well_formed_utf8 (pieces offsets values) ≡ true) }
+        → (cut_fault offsets values ≡ None) ↔ (are_well_formed_utf8 (pieces offsets values) ≡ true) }
 {}
 
 /// Whether each slot is UTF-8. The offsets are sound, and within the values.

@@ -13,6 +13,3 @@ pub use sink::Sink;
 pub use source::{Failed, Source};
 pub use std_stream::{StdSink, StdSource};
 pub use transfer::{ReadError, read_within, write_whole};
-
-#[cfg(test)]
-mod tests;

@@ -19,6 +19,3 @@ pub use kind::Kind;
 pub use laws::alike_slots;
 pub use plan::relayout;
 pub use steps::Step;
-
-#[cfg(test)]
-mod tests;

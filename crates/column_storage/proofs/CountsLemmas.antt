@@ -1,9 +1,8 @@
 -- Laws of the number of bits that are not set.
 use Rattle.std.proofs.Common.{◌≡◌, ℕ, zero, suc, ◌+◌, ◌-◌, ◌≤◌, Bool, true, false, not, cond, List, [], ◌∷◌, length, take, drop, replicate, slice_range, count_by, refl, ◌∙◌, ap, arith, if◌then◌else◌}
 use Rattle.std.proofs.lemmas.List.Sums.{sum_by-cons, sum_by-take-drop}
-use Rattle.std.proofs.lemmas.List.{length-drop, take_all}
+use Rattle.std.proofs.lemmas.List.{length-drop, drop-drop, take_all}
 use Rattle.column_base.specs.Lists.{sublist}
-use Rattle.column_base.proofs.ListsLemmas.{drop-drop}
 
 pub unset-true : (bits : List Bool) → count_by not (true ∷ bits) ≡ count_by not bits
 unset-true bits = sum_by-cons (λ (b : Bool). cond (not b) 1 0) true bits ∙ omega arith

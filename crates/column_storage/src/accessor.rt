@@ -3,7 +3,7 @@
 use crate::buffer::Buffer;
 
 /// What contracts see of the values of an array: a list.
-pub trait Slots {
+pub trait Values {
     ghost use Rattle.std.specs.Prelude.{List};
 
     /// What contracts see of one value.
@@ -13,7 +13,7 @@ pub trait Slots {
 }
 
 /// An array whose values are reached by their place.
-pub trait ArrayAccessor<'a>: Slots {
+pub trait ArrayAccessor<'a>: Values {
     ghost use Rattle.std.specs.Prelude.{◌≡◌, ◌<◌, length, slice_get, Some};
 
     /// A value, which may borrow from the array.
@@ -31,7 +31,7 @@ pub trait ArrayAccessor<'a>: Slots {
         ensures { result ≡ length (Self.items self.now) };
 }
 
-impl<T: Copy> Slots for Buffer<T> {
+impl<T: Copy> Values for Buffer<T> {
     type Shown = T;
 
     ghost items = { λ buffer. buffer };

@@ -178,12 +178,12 @@ impl Bitmap {
     /// Copies no bit and takes no memory. Counts the unset bits of the smaller of the two, and none where no bit is
     /// unset. `NoMemory` where the count of owners is full.
     #[tactic(auto, using(crate::proofs::CountsLemmas::counts))]
-    pub fn split_at(&self, offset: usize) -> Result<(Self, Self), PolarsError>
+    pub fn split_at(&self, alloc: Global, offset: usize) -> Result<(Self, Self), PolarsError>
         requires { offset ≤ length self.now }
         ensures { Answers result None (λ parts. (parts.0 ≡ take offset self.now) × (parts.1 ≡ drop offset self.now)) }
     {
         let unset = unset_of_part(self.bits.as_slice(), self.unset, 0, offset);
-        let (first, rest) = self.bits.split_at(offset)?;
+        let (first, rest) = self.bits.split_at(alloc, offset)?;
         let first = Bitmap { bits: first, unset };
         let rest = Bitmap {
             bits: rest,
@@ -206,10 +206,10 @@ impl Bitmap {
     /// The same list, which shares the memory of this one.
     ///
     /// Copies no bit and takes no memory. `NoMemory` where the count of owners is full.
-    pub fn try_clone(&self) -> Result<Self, PolarsError>
+    pub fn try_clone(&self, alloc: Global) -> Result<Self, PolarsError>
         ensures { Answers result None (λ b. b ≡ self.now) }
     {
-        let bits = self.bits.try_clone()?;
+        let bits = self.bits.try_clone(alloc)?;
         Ok(Bitmap {
             bits,
             unset: self.unset,

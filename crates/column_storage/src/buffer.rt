@@ -124,12 +124,12 @@ impl<T: Copy> Buffer<T> {
     /// The first `offset` values, and the rest. Both share the memory of this list.
     ///
     /// Copies no value and takes no memory. `NoMemory` where the count of owners is full.
-    pub fn split_at(&self, offset: usize) -> Result<(Self, Self), PolarsError>
+    pub fn split_at(&self, alloc: Global, offset: usize) -> Result<(Self, Self), PolarsError>
         requires { offset ≤ length self.now }
         ensures { Answers result None (λ parts. (parts.0 ≡ take offset self.now) × (parts.1 ≡ drop offset self.now)) }
     {
-        let first = self.try_clone()?.sliced(0, offset);
-        let rest = self.try_clone()?.sliced(offset, self.len - offset);
+        let first = self.try_clone(alloc)?.sliced(0, offset);
+        let rest = self.try_clone(alloc)?.sliced(offset, self.len - offset);
         Ok((first, rest))
     }
 
@@ -154,7 +154,7 @@ impl<T: Copy> Buffer<T> {
     /// The same list, which shares the memory of this one.
     ///
     /// Copies no value and takes no memory. `NoMemory` where the count of owners is full.
-    pub fn try_clone(&self) -> Result<Self, PolarsError>
+    pub fn try_clone(&self, alloc: Global) -> Result<Self, PolarsError>
         ensures { Answers result None (λ b. b ≡ self.now) }
     {
         let storage = self.storage.clone()?;

@@ -95,7 +95,7 @@ impl DataBuffers {
     {
         let mut buffers = Vec::with_capacity(alloc, self.buffers.len())?;
         for buffer in self.buffers.iter() {
-            buffers.push(buffer.try_clone()?)?;
+            buffers.push(buffer.try_clone(alloc)?)?;
         }
         Ok(buffers)
     }
@@ -103,7 +103,7 @@ impl DataBuffers {
     /// The same list, which shares the memory of this one.
     ///
     /// Copies no buffer and takes no memory. `NoMemory` where the count of owners is full.
-    pub fn try_clone(&self) -> Result<Self, PolarsError>
+    pub fn try_clone(&self, alloc: Global) -> Result<Self, PolarsError>
         ensures { Answers result None (λ d. d ≡ self.now) }
     {
         let buffers = self.buffers.clone()?;

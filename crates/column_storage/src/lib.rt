@@ -9,14 +9,12 @@ mod data_buffers;
 mod listed;
 mod mutable_bitmap;
 mod non_null_values_iter;
-#[cfg(test)]
-mod tests;
 mod true_idx_iter;
 mod validity;
 mod values_iter;
 mod zip_validity;
 
-pub use accessor::{ArrayAccessor, Slots};
+pub use accessor::{ArrayAccessor, Values};
 pub use bitmap::Bitmap;
 pub use bitmap_iter::BitmapIter;
 pub use buffer::Buffer;

@@ -1,6 +1,6 @@
 //! The values of an array that are not null, one by one.
 
-use crate::accessor::{ArrayAccessor, Slots};
+use crate::accessor::{ArrayAccessor, Values};
 use crate::bitmap::Bitmap;
 use crate::listed::Listed;
 use crate::true_idx_iter::TrueIdxIter;
@@ -10,7 +10,7 @@ use std::iter::FusedIterator;
 /// The values that are left of the valid slots of an array, in order. It may be copied.
 ///
 /// Arrow columnar format, "Validity bitmaps".
-pub struct NonNullValuesIter<'a, A: Slots> {
+pub struct NonNullValuesIter<'a, A: Values> {
     accessor: &'a A,
     idxs: TrueIdxIter<'a>,
     ghost matched: { idxs.len ≡ length (A.items accessor.now) },
@@ -36,7 +36,7 @@ impl<'a, A: ArrayAccessor<'a>> NonNullValuesIter<'a, A> {
     }
 }
 
-impl<'a, A: Slots> Clone for NonNullValuesIter<'a, A> {
+impl<'a, A: Values> Clone for NonNullValuesIter<'a, A> {
     ghost is_clone = { λ iter copy. copy ≡ iter };
 
     ghost is_infallible = { λ _. ⊤ };
@@ -46,7 +46,7 @@ impl<'a, A: Slots> Clone for NonNullValuesIter<'a, A> {
     }
 }
 
-impl<'a, A: Slots> Copy for NonNullValuesIter<'a, A> {}
+impl<'a, A: Values> Copy for NonNullValuesIter<'a, A> {}
 
 #[tactic(auto, using(crate::proofs::ValuesLemmas::values))]
 impl<'a, A: ArrayAccessor<'a>> Iterator for NonNullValuesIter<'a, A> {

@@ -1,12 +1,12 @@
 //! The values of an array, one by one.
 
-use crate::accessor::{ArrayAccessor, Slots};
+use crate::accessor::{ArrayAccessor, Values};
 use crate::listed::Listed;
 use std::alloc::AllocError;
 use std::iter::FusedIterator;
 
 /// The values that are left of an array, from both ends. It may be copied.
-pub struct ArrayValuesIter<'a, A: Slots> {
+pub struct ArrayValuesIter<'a, A: Values> {
     array: &'a A,
     index: usize,
     end: usize,
@@ -61,7 +61,7 @@ impl<'a, A: ArrayAccessor<'a>> ArrayValuesIter<'a, A> {
     }
 }
 
-impl<'a, A: Slots> Clone for ArrayValuesIter<'a, A> {
+impl<'a, A: Values> Clone for ArrayValuesIter<'a, A> {
     ghost is_clone = { λ iter copy. copy ≡ iter };
 
     ghost is_infallible = { λ _. ⊤ };
@@ -71,7 +71,7 @@ impl<'a, A: Slots> Clone for ArrayValuesIter<'a, A> {
     }
 }
 
-impl<'a, A: Slots> Copy for ArrayValuesIter<'a, A> {}
+impl<'a, A: Values> Copy for ArrayValuesIter<'a, A> {}
 
 #[tactic(auto, using(crate::proofs::RangesLemmas::ranges))]
 impl<'a, A: ArrayAccessor<'a>> Iterator for ArrayValuesIter<'a, A> {

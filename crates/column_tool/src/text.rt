@@ -156,8 +156,8 @@ pub fn text_of(alloc: Global, column: &AnyArray) -> Result<Vec<u8>, PolarsError>
     match column {
         AnyArray::Binary32(array) => Ok(array_text(alloc, Kind::Binary32, array)?),
         AnyArray::Binary64(array) => Ok(array_text(alloc, Kind::Binary64, array)?),
-        AnyArray::Utf8_32(array) => Ok(array_text(alloc, Kind::Utf8_32, &array.to_binary()?)?),
-        AnyArray::Utf8_64(array) => Ok(array_text(alloc, Kind::Utf8_64, &array.to_binary()?)?),
+        AnyArray::Utf8_32(array) => Ok(array_text(alloc, Kind::Utf8_32, &array.to_binary(alloc)?)?),
+        AnyArray::Utf8_64(array) => Ok(array_text(alloc, Kind::Utf8_64, &array.to_binary(alloc)?)?),
     }
 }
 

@@ -12,7 +12,7 @@ use Rattle.column_base.specs.Slots.{slot_at, values_of}
 use Rattle.column_base.specs.Utf8.{is_well_formed_utf8, IsWellFormedUtf8}
 use Rattle.column_base.proofs.ListsLemmas.{map-sublist}
 use Rattle.column_offset.specs.Offsets.{nat_of, last_of, bounds_fault}
-use Rattle.column_offset.specs.Text.{pieces, are_well_formed_utf8, texts_fault, text_fault}
+use Rattle.column_offset.specs.Text.{pieces, are_well_formed_utf8, texts_fault, cut_fault}
 use Rattle.column_offset.proofs.TextLemmas.{all_where_no_fault}
 use Rattle.column_binary.specs.Types.{binary_type, type_fault}
 use Rattle.column_binary.specs.Slots.{OffsetLists, slot_count, offset_slots, flags_fault, array_fault, AreSoundLists, sliced_lists}
@@ -88,8 +88,8 @@ within_bounds : (last : ℤ) (count : ℕ) → last ≤ℤ pos count → cause_i
 within_bounds last count within = let test : int_lt (pos count) last ≡ false = grind (arith, ints) in rw test refl
 
 -- the fault of texts is that of the slots, where the offsets lie within the values
-pub text_fault_is : (lists : OffsetLists) → AreSoundLists lists → text_fault lists.offsets lists.values ≡ texts_fault (values_of (offset_slots lists))
-unfolding text_fault
+pub text_fault_is : (lists : OffsetLists) → AreSoundLists lists → cut_fault lists.offsets lists.values ≡ texts_fault (values_of (offset_slots lists))
+unfolding cut_fault
 text_fault_is lists sound =
     ap (λ (first : Option Cause). first or_else texts_fault (pieces lists.offsets lists.values)) (within_bounds (last_of lists.offsets) (length lists.values) sound.within)
     ∙ ap texts_fault (sym (values_of-offset_slots lists sound))
@@ -97,21 +97,21 @@ text_fault_is lists sound =
 pub texts_where_none : (lists : OffsetLists) → AreSoundLists lists → texts_fault (values_of (offset_slots lists)) ≡ None → AreSoundTexts lists
 texts_where_none lists sound none = record { sound = sound; texts = all_where_no_fault (values_of (offset_slots lists)) none }
 
-pub texts_where_fine : (lists : OffsetLists) → AreSoundLists lists → text_fault lists.offsets lists.values ≡ None → AreSoundTexts lists
+pub texts_where_fine : (lists : OffsetLists) → AreSoundLists lists → cut_fault lists.offsets lists.values ≡ None → AreSoundTexts lists
 texts_where_fine lists sound none = texts_where_none lists sound (sym (text_fault_is lists sound) ∙ none)
 
-bounds_where_fine : (lists : OffsetLists) → text_fault lists.offsets lists.values ≡ None → bounds_fault lists.offsets (length lists.values) ≡ None
-unfolding text_fault
+bounds_where_fine : (lists : OffsetLists) → cut_fault lists.offsets lists.values ≡ None → bounds_fault lists.offsets (length lists.values) ≡ None
+unfolding cut_fault
 bounds_where_fine lists none = (first_none (bounds_fault lists.offsets (length lists.values)) (texts_fault (pieces lists.offsets lists.values)) none).0
 
 -- where the slots are texts, the array of byte strings has the fault of the flags
-array_fault_is : (lists : OffsetLists) (large : Bool) → text_fault lists.offsets lists.values ≡ None → (array_fault lists or_else type_fault large (binary_type large)) ≡ flags_fault (slot_count lists) lists.flags
+array_fault_is : (lists : OffsetLists) (large : Bool) → cut_fault lists.offsets lists.values ≡ None → (array_fault lists or_else type_fault large (binary_type large)) ≡ flags_fault (slot_count lists) lists.flags
 array_fault_is lists large none =
     ap (λ (type : Option Cause). array_fault lists or_else type) (own_type large)
     ∙ none_after (array_fault lists)
     ∙ ap (λ (first : Option Cause). first or_else flags_fault (slot_count lists) lists.flags) (bounds_where_fine lists none)
 
-pub array_refused : (lists : OffsetLists) (large : Bool) (type : Option Cause) (cause : Cause) → text_fault lists.offsets lists.values ≡ None → (array_fault lists or_else type_fault large (binary_type large)) ≡ Some cause → (text_array_fault lists or_else type) ≡ Some cause
+pub array_refused : (lists : OffsetLists) (large : Bool) (type : Option Cause) (cause : Cause) → cut_fault lists.offsets lists.values ≡ None → (array_fault lists or_else type_fault large (binary_type large)) ≡ Some cause → (text_array_fault lists or_else type) ≡ Some cause
 array_refused lists large type cause none refused =
     let flags : flags_fault (slot_count lists) lists.flags ≡ Some cause = sym (array_fault_is lists large none) ∙ refused in
     ap (λ (first : Option Cause). first or_else flags_fault (slot_count lists) lists.flags or_else type) none
@@ -119,12 +119,12 @@ array_refused lists large type cause none refused =
 
 pub array_fine : (lists : OffsetLists) (large : Bool) (type : Option Cause) → (text_array_fault lists or_else type) ≡ None → (array_fault lists or_else type_fault large (binary_type large)) ≡ None
 array_fine lists large type none =
-    let parts = first_none (text_fault lists.offsets lists.values) (flags_fault (slot_count lists) lists.flags) (first_none (text_array_fault lists) type none).0 in
+    let parts = first_none (cut_fault lists.offsets lists.values) (flags_fault (slot_count lists) lists.flags) (first_none (text_array_fault lists) type none).0 in
     array_fault_is lists large parts.0 ∙ parts.1
 
 pub texts_fine : (lists : OffsetLists) (type : Option Cause) → AreSoundLists lists → (text_array_fault lists or_else type) ≡ None → AreSoundTexts lists
 texts_fine lists type sound none =
-    let parts = first_none (text_fault lists.offsets lists.values) (flags_fault (slot_count lists) lists.flags) (first_none (text_array_fault lists) type none).0 in
+    let parts = first_none (cut_fault lists.offsets lists.values) (flags_fault (slot_count lists) lists.flags) (first_none (text_array_fault lists) type none).0 in
     texts_where_fine lists sound parts.0
 
 -- ---- slots without bytes

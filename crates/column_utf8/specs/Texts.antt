@@ -4,12 +4,12 @@ use Rattle.std.specs.declared.option.Option.{Option}
 use Rattle.column_base.specs.declared.errors.Cause.{Cause}
 use Rattle.column_base.specs.Answers.{◌or_else◌}
 use Rattle.column_base.specs.Slots.{values_of}
-use Rattle.column_offset.specs.Text.{are_well_formed_utf8, text_fault}
+use Rattle.column_offset.specs.Text.{are_well_formed_utf8, cut_fault}
 use Rattle.column_binary.specs.Slots.{OffsetLists, slot_count, offset_slots, flags_fault, AreSoundLists}
 
 -- the first fault of lists whose offsets are sound
 abbrev pub text_array_fault : OffsetLists → Option Cause
-text_array_fault lists = text_fault lists.offsets lists.values or_else flags_fault (slot_count lists) lists.flags
+text_array_fault lists = cut_fault lists.offsets lists.values or_else flags_fault (slot_count lists) lists.flags
 
 -- Lists that are sound, and each slot by itself is UTF-8, a null one too. Unicode, table 3-7.
 pub record AreSoundTexts (lists : OffsetLists) : Type 0 where

@@ -9,7 +9,7 @@ ghost use Rattle.column_binary.specs.Slots.{offset_lists, offset_slots, slot_cou
 ghost use Rattle.column_utf8.specs.Types.{text_type, is_text, type_fault};
 ghost use Rattle.column_utf8.specs.Texts.{text_array_fault, AreSoundTexts};
 
-use column_base::{ArrowDataType, Cause, Offset, PhysicalType, PolarsError, Splitable, text_of};
+use column_base::{ArrowDataType, Cause, Offset, PhysicalType, PolarsError, Splitable, str_of};
 use column_binary::BinaryArray;
 use column_offset::{OffsetsBuffer, try_check_utf8};
 use column_storage::{Bitmap, Buffer};
@@ -133,10 +133,10 @@ impl<O: Offset> Utf8Array<O> {
     /// The same column, which shares the memory of this one.
     ///
     /// Copies no slot and takes no memory. `NoMemory` where a count of owners is full.
-    pub fn try_clone(&self) -> Result<Self, PolarsError>
+    pub fn try_clone(&self, alloc: Global) -> Result<Self, PolarsError>
         ensures { Answers result None (λ a. a ≡ self.now) }
     {
-        let array = self.array.try_clone()?;
+        let array = self.array.try_clone(alloc)?;
         Ok(Utf8Array::of(array))
     }
 
@@ -237,7 +237,7 @@ impl<O: Offset> Utf8Array<O> {
         ensures { result.now ≡ (slot_at (offset_slots self.now) i).bytes }
     {
         let _slots = self.len();
-        text_of(self.array.value(i))
+        str_of(self.array.value(i))
     }
 
     /// The same as [`Utf8Array::value`].
@@ -339,9 +339,9 @@ impl<O: Offset> Splitable for Utf8Array<O> {
         offset <= self.len()
     }
 
-    fn split_at(&self, offset: usize) -> Result<(Self, Self), PolarsError> {
-        let front = self.try_clone()?.sliced(0, offset);
-        let back = self.try_clone()?.sliced(offset, self.len() - offset);
+    fn split_at(&self, alloc: Global, offset: usize) -> Result<(Self, Self), PolarsError> {
+        let front = self.try_clone(alloc)?.sliced(0, offset);
+        let back = self.try_clone(alloc)?.sliced(offset, self.len() - offset);
         Ok((front, back))
     }
 }

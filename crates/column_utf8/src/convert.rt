@@ -10,15 +10,16 @@ use crate::array::Utf8Array;
 use column_base::{Cause, Offset, PolarsError};
 use column_binary::BinaryArray;
 use column_offset::try_check_utf8;
+use std::alloc::Global;
 
 impl<O: Offset> Utf8Array<O> {
     /// The same slots as byte strings: offsets, value bytes and validity are those of the texts, and shared with them.
     ///
     /// Copies no slot and takes no memory. `NoMemory` where a count of owners is full.
-    pub fn to_binary(&self) -> Result<BinaryArray<O>, PolarsError>
+    pub fn to_binary(&self, alloc: Global) -> Result<BinaryArray<O>, PolarsError>
         ensures { Answers result None (λ a. a ≡ self.now) }
     {
-        self.as_binary().try_clone()
+        self.as_binary().try_clone(alloc)
     }
 
     /// The same slots as byte strings: offsets, value bytes and validity are those of the texts. Takes no memory.

@@ -8,14 +8,14 @@ ghost use Rattle.column_binary.specs.Slots.{offset_slots};
 use crate::array::Utf8Array;
 use column_base::Offset;
 use column_storage::{
-    ArrayAccessor, ArrayValuesIter, BitmapIter, Buffer, Listed, NonNullValuesIter, Slots,
+    ArrayAccessor, ArrayValuesIter, BitmapIter, Buffer, Listed, NonNullValuesIter, Values,
     ZipValidity,
 };
 
 /// The text of each slot that is left of an array, of null ones too.
 pub type Utf8ValuesIter<'a, O> = ArrayValuesIter<'a, Utf8Array<O>>;
 
-impl<O: Offset> Slots for Utf8Array<O> {
+impl<O: Offset> Values for Utf8Array<O> {
     ghost use Rattle.column_base.specs.Slots.{values_of};
     ghost use Rattle.column_binary.specs.Slots.{offset_slots};
 

@@ -8,6 +8,3 @@ mod iterator;
 pub use array::Utf8Array;
 pub use convert::try_into_utf8;
 pub use iterator::Utf8ValuesIter;
-
-#[cfg(test)]
-mod tests;

@@ -2,7 +2,7 @@
 use Rattle.std.proofs.Common.{◌≡◌, None, subst, sym}
 use Rattle.std.proofs.lemmas.Result.{err_from_is_err_and}
 use Rattle.column_base.proofs.AnswersLemmas.{gives_err}
-use Rattle.column_offset.specs.Text.{text_fault}
+use Rattle.column_offset.specs.Text.{cut_fault}
 use Rattle.column_binary.specs.Slots.{OffsetLists, offset_lists}
 use Rattle.column_utf8.specs.Types.{type_fault}
 use Rattle.column_utf8.proofs.TextsLemmas.{array_refused, texts_where_fine}
@@ -12,11 +12,11 @@ pub returns-in_err-array : goal.returns-in_err-array
 returns-in_err-array g c =
     let p = err_from_is_err_and c.from_residual-in_err-array.result c.from_residual-in_err-array.ensures.1 in
     let lists = offset_lists c.args.offsets c.args.values c.args.validity in
-    let text : text_fault c.args.offsets c.args.values ≡ None = rw (← c.as_slice.ensures.same, ← c.as_slice-2.ensures) (c.in_ok-try_check_utf8.ensures {u = tt}).0 in
+    let text : cut_fault c.args.offsets c.args.values ≡ None = rw (← c.as_slice.ensures.same, ← c.as_slice-2.ensures) (c.in_ok-try_check_utf8.ensures {u = tt}).0 in
     rw (p.1, p.2) (gives_err _ _ _ _ _ (c.in_err-array.ensures {u = tt}) (λ cause e. array_refused lists g.O.Offset.IS_LARGE (type_fault g.O.Offset.IS_LARGE c.args.dtype) cause text (rw (← c.default_dtype.ensures) e)))
 
 pub of-requires : goal.of-requires
 of-requires g c =
-    let text : text_fault c.args.offsets c.args.values ≡ None = rw (← c.as_slice.ensures.same, ← c.as_slice-2.ensures) (c.in_ok-try_check_utf8.ensures {u = tt}).0 in
+    let text : cut_fault c.args.offsets c.args.values ≡ None = rw (← c.as_slice.ensures.same, ← c.as_slice-2.ensures) (c.in_ok-try_check_utf8.ensures {u = tt}).0 in
     texts_where_fine c.in_ok-array.array c.len-slots.ensures.sound
-    (subst (λ (lists : OffsetLists). text_fault lists.offsets lists.values ≡ None) (sym (c.in_ok-array.ensures {u = tt}).1) text)
+    (subst (λ (lists : OffsetLists). cut_fault lists.offsets lists.values ≡ None) (sym (c.in_ok-array.ensures {u = tt}).1) text)
