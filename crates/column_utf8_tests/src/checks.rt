@@ -1,0 +1,365 @@
+//! What texts are seen to be: one truth value for each group of calls, and no assertion.
+
+use crate::cases::{FOUR, Flags, Lists, bitmap, byte_strings, four, lists, raw_texts, texts};
+use column_base::{ArrowDataType, Cause, Offset, PolarsError, Splitable};
+use column_binary::BinaryArray;
+use column_offset::OffsetsBuffer;
+use column_storage::{ArrayAccessor, ArrayValuesIter, Bitmap, Buffer};
+use column_utf8::{Utf8Array, no_fault_is_sound, try_into_utf8};
+use std::alloc::Global;
+
+// ---- lists
+
+fn flags_are(bits: Option<&Bitmap>, wanted: Flags<'_>) -> bool {
+    match (bits, wanted) {
+        (None, None) => true,
+        (Some(bits), Some(wanted)) => bits.iter().eq(wanted.iter().copied()),
+        _ => false,
+    }
+}
+
+fn parts_are<O: Offset>(
+    offsets: &OffsetsBuffer<O>,
+    values: &Buffer<u8>,
+    validity: Option<&Bitmap>,
+    wanted: Lists<'_>,
+) -> bool {
+    let places = wanted.offsets.iter().map(|place| O::from_usize(*place));
+    offsets
+        .as_slice()
+        .iter()
+        .map(|offset| Some(*offset))
+        .eq(places)
+        && values.as_slice() == wanted.values
+        && flags_are(validity, wanted.flags)
+}
+
+pub fn texts_are<O: Offset>(array: &Utf8Array<O>, wanted: Lists<'_>) -> bool {
+    parts_are(array.offsets(), array.values(), array.validity(), wanted)
+        && array.len() + 1 == wanted.offsets.len()
+        && array.is_empty() == (wanted.offsets.len() == 1)
+}
+
+fn byte_strings_are<O: Offset>(array: &BinaryArray<O>, wanted: Lists<'_>) -> bool {
+    parts_are(array.offsets(), array.values(), array.validity(), wanted)
+}
+
+// ---- constructors
+
+fn is_told<O: Offset>(
+    alloc: Global,
+    lists: Lists<'_>,
+    dtype: ArrowDataType,
+    cause: Option<Cause>,
+) -> bool {
+    match texts::<O>(alloc, lists, dtype) {
+        Ok(array) => cause.is_none() && texts_are(&array, lists),
+        Err(error) => cause.map(PolarsError::ComputeError) == Some(error),
+    }
+}
+
+/// At both widths, with the data type of texts of that width, or of the other one.
+pub fn are_told(alloc: Global, lists: Lists<'_>, is_own: bool, cause: Option<Cause>) -> bool {
+    let (own, other) = (ArrowDataType::Utf8, ArrowDataType::LargeUtf8);
+    let (small, wide) = if is_own { (own, other) } else { (other, own) };
+    is_told::<i32>(alloc, lists, small, cause) && is_told::<i64>(alloc, lists, wide, cause)
+}
+
+pub fn dtype_is_refused(alloc: Global, dtype: ArrowDataType) -> bool {
+    let wrong = Some(Cause::WrongDataType);
+    is_told::<i32>(alloc, FOUR, dtype, wrong) && is_told::<i64>(alloc, FOUR, dtype, wrong)
+}
+
+fn raw_is_told<O: Offset>(
+    alloc: Global,
+    lists: Lists<'_>,
+    cause: Option<Cause>,
+) -> Result<bool, PolarsError> {
+    Ok(match raw_texts::<O>(alloc, lists)? {
+        Ok(array) => cause.is_none() && texts_are(&array, lists),
+        Err(fault) => cause == Some(fault),
+    })
+}
+
+pub fn raw_are_told(
+    alloc: Global,
+    lists: Lists<'_>,
+    cause: Option<Cause>,
+) -> Result<bool, PolarsError> {
+    Ok(raw_is_told::<i32>(alloc, lists, cause)? && raw_is_told::<i64>(alloc, lists, cause)?)
+}
+
+pub fn dtype_is<O: Offset>(array: &Utf8Array<O>, dtype: ArrowDataType) -> bool {
+    array.dtype() == dtype && Utf8Array::<O>::default_dtype() == dtype
+}
+
+pub fn empty_is<O: Offset>(alloc: Global) -> Result<bool, PolarsError> {
+    let array = Utf8Array::<O>::new_empty(alloc, Utf8Array::<O>::default_dtype())?;
+    Ok(texts_are(&array, lists(&[0], b"", None)))
+}
+
+pub fn nulls_are<O: Offset>(alloc: Global) -> Result<bool, PolarsError> {
+    let array = Utf8Array::<O>::new_null(alloc, Utf8Array::<O>::default_dtype(), 2)?;
+    Ok(texts_are(&array, lists(&[0, 0, 0], b"", Some(&[false, false]))) && array.null_count() == 2)
+}
+
+pub fn no_nulls_are(alloc: Global) -> Result<bool, PolarsError> {
+    let array = Utf8Array::<i64>::new_null(alloc, ArrowDataType::LargeUtf8, 0)?;
+    Ok(texts_are(&array, lists(&[0], b"", Some(&[]))))
+}
+
+// ---- taken apart, and put together again
+
+pub fn is_handed_back<O: Offset>(array: Utf8Array<O>) -> bool {
+    let (dtype, offsets, values, validity) = array.into_inner();
+    dtype == Utf8Array::<O>::default_dtype()
+        && parts_are(&offsets, &values, validity.as_ref(), FOUR)
+}
+
+pub fn is_made_again<O: Offset>(array: Utf8Array<O>) -> bool {
+    let (dtype, offsets, values, validity) = array.into_inner();
+    no_fault_is_sound();
+    texts_are(&Utf8Array::new(dtype, offsets, values, validity), FOUR)
+}
+
+pub fn is_taken_again<O: Offset>(array: Utf8Array<O>) -> bool {
+    let (dtype, offsets, values, validity) = array.into_inner();
+    no_fault_is_sound();
+    texts_are(
+        &Utf8Array::new_unchecked(dtype, offsets, values, validity),
+        FOUR,
+    )
+}
+
+pub fn share_is<O: Offset>(alloc: Global, array: &Utf8Array<O>) -> Result<bool, PolarsError> {
+    let shared = array.try_clone(alloc)?;
+    Ok(texts_are(&shared, FOUR))
+}
+
+// ---- readers by place
+
+fn slot_is<O: Offset>(array: &Utf8Array<O>, i: usize, valid: bool, text: &str) -> bool {
+    i < array.len()
+        && array.is_valid(i) == valid
+        && array.is_null(i) != valid
+        && array.value(i) == text
+        && array.value_unchecked(i) == text
+        && array.get(i) == (if valid { Some(text) } else { None })
+}
+
+pub fn slots_are<O: Offset>(array: &Utf8Array<O>) -> bool {
+    array.len() == 4
+        && array.null_count() == 1
+        && slot_is(array, 0, true, "é")
+        && slot_is(array, 1, false, "x")
+        && slot_is(array, 2, true, "")
+        && slot_is(array, 3, true, "€b")
+}
+
+// ---- iterators
+
+pub fn rows_are(array: &Utf8Array<i32>, wanted: &[Option<&str>]) -> bool {
+    array.into_iter().eq(wanted.iter().copied())
+}
+
+pub fn large_rows_are(array: &Utf8Array<i64>, wanted: &[Option<&str>]) -> bool {
+    array.iter().eq(wanted.iter().copied())
+}
+
+pub fn values_are(array: &Utf8Array<i32>, every: &[&str], valid: &[&str]) -> bool {
+    array.values_iter().eq(every.iter().copied())
+        && array.non_null_values_iter().eq(valid.iter().copied())
+}
+
+pub fn last_values_are(array: &Utf8Array<i64>, back: &[&str]) -> bool {
+    array.values_iter().rev().eq(back.iter().copied())
+}
+
+// the rows from both ends; once there are none, both ends can be asked again
+pub fn ends_are_rows(array: &Utf8Array<i64>) -> bool {
+    let mut rows = array.iter();
+    rows.size_hint() == (4, Some(4))
+        && rows.next() == Some(Some("é"))
+        && rows.next_back() == Some(Some("€b"))
+        && rows.next() == Some(None)
+        && rows.next_back() == Some(Some(""))
+        && rows.next().is_none()
+        && rows.next_back().is_none()
+        && rows.next().is_none()
+}
+
+/// Through the bound that the iterators go by.
+pub fn places_are<'a, A: ArrayAccessor<'a, Item = &'a str>>(array: &'a A) -> bool {
+    ArrayAccessor::len(array) == 4
+        && ArrayAccessor::value_unchecked(array, 1) == "x"
+        && ArrayValuesIter::new(array).nth(3) == Some("€b")
+        && ArrayValuesIter::new(array).nth_back(3) == Some("é")
+}
+
+// ---- parts
+
+/// How a part is taken.
+#[derive(Clone, Copy, Debug)]
+pub enum Call {
+    Sliced,
+    SlicedUnchecked,
+    Slice,
+    SliceUnchecked,
+}
+
+fn part_is<O: Offset>(
+    array: Utf8Array<O>,
+    call: Call,
+    range: (usize, usize),
+    wanted: Lists<'_>,
+) -> bool {
+    let mut array = array;
+    let (from, length) = range;
+    if from > array.len() || length > array.len() - from {
+        return false;
+    }
+    match call {
+        Call::Sliced => array = array.sliced(from, length),
+        Call::SlicedUnchecked => array = array.sliced_unchecked(from, length),
+        Call::Slice => array.slice(from, length),
+        Call::SliceUnchecked => array.slice_unchecked(from, length),
+    }
+    texts_are(&array, wanted)
+}
+
+pub fn four_give<O: Offset>(
+    alloc: Global,
+    call: Call,
+    range: (usize, usize),
+    wanted: Lists<'_>,
+) -> Result<bool, PolarsError> {
+    Ok(part_is(four::<O>(alloc)?, call, range, wanted))
+}
+
+pub fn slices_follow(alloc: Global) -> Result<bool, PolarsError> {
+    let mut array = four::<i64>(alloc)?;
+    if array.len() != 4 {
+        return Ok(false);
+    }
+    array.slice(1, 3);
+    Ok(part_is(
+        array,
+        Call::Sliced,
+        (1, 2),
+        lists(&[4, 4, 8], FOUR.values, None),
+    ))
+}
+
+/// The slots before a place and from it on, of any list that can be cut.
+fn halves<S: Splitable + Drop>(
+    alloc: Global,
+    list: &S,
+    place: usize,
+    unchecked: bool,
+) -> Result<(S, S), PolarsError>
+    requires { place ≤ S.slot_count list.now }
+{
+    if unchecked {
+        list.split_at_unchecked(alloc, place)
+    } else {
+        list.split_at(alloc, place)
+    }
+}
+
+pub fn halves_are<O: Offset>(
+    alloc: Global,
+    array: &Utf8Array<O>,
+    (place, unchecked): (usize, bool),
+    front: Lists<'_>,
+    back: Lists<'_>,
+) -> Result<bool, PolarsError> {
+    if !array.check_bound(place) {
+        return Ok(false);
+    }
+    let (one, other) = halves(alloc, array, place, unchecked)?;
+    Ok(texts_are(&one, front) && texts_are(&other, back))
+}
+
+// ---- other flags
+
+fn beside(flags: Flags<'_>) -> Lists<'_> {
+    lists(FOUR.offsets, FOUR.values, flags)
+}
+
+pub fn with_is(alloc: Global, flags: Flags<'_>) -> Result<bool, PolarsError> {
+    let bits = bitmap(alloc, flags)?;
+    Ok(is_beside(four(alloc)?, bits, flags))
+}
+
+fn is_beside(array: Utf8Array<i32>, bits: Option<Bitmap>, flags: Flags<'_>) -> bool {
+    if let Some(bits) = &bits {
+        if bits.len() != array.len() {
+            return false;
+        }
+    }
+    texts_are(&array.with_validity(bits), beside(flags))
+}
+
+pub fn set_is(alloc: Global, flags: Flags<'_>) -> Result<bool, PolarsError> {
+    let bits = bitmap(alloc, flags)?;
+    Ok(is_set(four(alloc)?, bits, flags))
+}
+
+fn is_set(array: Utf8Array<i64>, bits: Option<Bitmap>, flags: Flags<'_>) -> bool {
+    let mut array = array;
+    if let Some(bits) = &bits {
+        if bits.len() != array.len() {
+            return false;
+        }
+    }
+    array.set_validity(bits);
+    texts_are(&array, beside(flags))
+}
+
+pub fn taken_is(array: Utf8Array<i32>) -> bool {
+    let mut array = array;
+    let taken = array.take_validity();
+    flags_are(taken.as_ref(), FOUR.flags) && texts_are(&array, beside(None))
+}
+
+// ---- byte strings and texts
+
+pub fn binary_is<O: Offset>(alloc: Global, array: &Utf8Array<O>) -> Result<bool, PolarsError> {
+    let shared = array.to_binary(alloc)?;
+    Ok(byte_strings_are(&shared, FOUR) && byte_strings_are(array.as_binary(), FOUR))
+}
+
+pub fn into_binary_is<O: Offset>(
+    array: Utf8Array<O>,
+    range: (usize, usize),
+    wanted: Lists<'_>,
+) -> bool {
+    let (from, length) = range;
+    if from > array.len() || length > array.len() - from {
+        return false;
+    }
+    byte_strings_are(&array.sliced(from, length).into_binary(), wanted)
+}
+
+fn is_converted<O: Offset>(array: BinaryArray<O>, cause: Option<Cause>, wanted: Lists<'_>) -> bool {
+    match try_into_utf8(array) {
+        Ok(texts) => cause.is_none() && texts_are(&texts, wanted),
+        Err((back, refused)) => Some(refused) == cause && byte_strings_are(&back, wanted),
+    }
+}
+
+/// A slice of byte strings that is to become texts: refused for a cause, or taken where there is none.
+pub fn slice_is_converted<O: Offset>(
+    alloc: Global,
+    lists: Lists<'_>,
+    range: (usize, usize),
+    cause: Option<Cause>,
+    wanted: Lists<'_>,
+) -> Result<bool, PolarsError> {
+    let array = byte_strings::<O>(alloc, lists)?;
+    let (from, length) = range;
+    if from > array.len() || length > array.len() - from {
+        return Ok(false);
+    }
+    Ok(is_converted(array.sliced(from, length), cause, wanted))
+}

@@ -1,0 +1,383 @@
+//! The tests: each asserts what a check of `checks` says.
+
+use crate::cases::{FOUR, Flags, Lists, four, lists};
+use crate::checks::{
+    Call, are_told, binary_is, dtype_is, dtype_is_refused, empty_is, ends_are_rows, four_give,
+    halves_are, into_binary_is, is_handed_back, is_made_again, is_taken_again, large_rows_are,
+    last_values_are, no_nulls_are, nulls_are, places_are, raw_are_told, rows_are, set_is, share_is,
+    slice_is_converted, slices_follow, slots_are, taken_is, values_are, with_is,
+};
+use column_base::{ArrowDataType, Cause};
+use std::test::Fail;
+
+const ONE: Flags<'static> = Some(&[true]);
+
+const TWO: Flags<'static> = Some(&[true, false]);
+
+const NULLS: Flags<'static> = Some(&[false, false]);
+
+const THREE: Flags<'static> = Some(&[true, false, true]);
+
+// ---- constructors
+
+#[test]
+fn texts_are_told_by_their_slots(rt: HostRuntime) {
+    let exceeds = Some(Cause::OffsetsExceedValues);
+    let (invalid, boundary) = (Some(Cause::InvalidUtf8), Some(Cause::CharBoundary));
+    let table: [(&[usize], &[u8], Option<&[bool]>, Option<Cause>); 20] = [
+        (&[0, 1, 3], b"a\xC3\xA9", None, None),
+        (&[0, 1, 3], b"a\xC3\xA9", TWO, None),
+        // bytes that no slot has
+        (&[1, 2], b"\xFFa\xFF", None, None),
+        (&[0, 1, 2], b"ab\xFF", None, None),
+        (&[1, 3], b"\x80\xC3\xA9\x80", ONE, None),
+        (&[1, 1], b"\xC3\xFF", None, None),
+        (&[1], b"\xC3\xA9", None, None),
+        (&[2], b"\xFF\xFF", None, None),
+        // past the values
+        (&[0, 1, 3], b"a\xC3", None, exceeds),
+        (&[5], b"abc", None, exceeds),
+        (&[1], b"", None, exceeds),
+        // no UTF-8 end to end
+        (&[0, 1, 2], b"a\xC3\xA9", None, invalid),
+        (&[0, 2], b"\xC3\x28", None, invalid),
+        (&[0, 1, 2], b"a\xFF", TWO, invalid),
+        (&[0, 1, 2], b"\xFF\xFF", NULLS, invalid),
+        (
+            &[0, 4, 5, 7],
+            b"a\xE2\x82\xAC\xF0\x9F\x98\x80",
+            THREE,
+            invalid,
+        ),
+        // cut inside a character
+        (&[0, 1, 2], b"\xC3\xA9", None, boundary),
+        (&[0, 1, 2], b"\xC3\xA9", NULLS, boundary),
+        (&[1, 2, 3], b"\x80\xC3\xA9\x80", TWO, boundary),
+        (
+            &[0, 4, 5, 8],
+            b"a\xE2\x82\xAC\xF0\x9F\x98\x80",
+            THREE,
+            boundary,
+        ),
+    ];
+    for (offsets, values, flags, cause) in table {
+        let lists = lists(offsets, values, flags);
+        assert!(rt; are_told(rt.alloc(), lists, true, cause), "{lists:?}");
+    }
+}
+
+#[test]
+fn the_first_refusal_is_told(rt: HostRuntime) {
+    let (exceeds, length) = (Cause::OffsetsExceedValues, Cause::ValidityLength);
+    let (invalid, boundary) = (Cause::InvalidUtf8, Cause::CharBoundary);
+    let dtype = Cause::WrongDataType;
+    // the lists, whether the data type is the one of texts of that width, and the cause
+    let table: [(&[usize], &[u8], Option<&[bool]>, bool, Cause); 17] = [
+        (&[0, 1, 3], b"a\xC3\xA9", ONE, true, length),
+        (&[0, 1, 3], b"a\xC3\xA9", THREE, true, length),
+        (&[0], b"", ONE, true, length),
+        (&[0, 1, 3], b"a\xC3\xA9", TWO, false, dtype),
+        // two faults and more
+        (&[0, 1, 3], b"\xFF\xFF", None, true, exceeds),
+        (&[0, 1, 2, 9], b"\xC3\xA9", None, true, exceeds),
+        (&[0, 1, 3], b"ab", ONE, true, exceeds),
+        (&[0, 1, 3], b"ab", TWO, false, exceeds),
+        (&[0, 1, 2], b"\xFF", THREE, false, exceeds),
+        (&[0, 2, 3], b"\xC3\xA9\xA9", None, true, invalid),
+        (&[0, 1, 2], b"a\xFF", ONE, true, invalid),
+        (&[0, 1, 2], b"a\xFF", TWO, false, invalid),
+        (&[0, 1, 2], b"\xFF\xFF", THREE, false, invalid),
+        (&[0, 1, 2], b"\xC3\xA9", THREE, true, boundary),
+        (&[0, 1, 2], b"\xC3\xA9", TWO, false, boundary),
+        (&[0, 1, 2], b"\xC3\xA9", ONE, false, boundary),
+        (&[0, 1, 2], b"ab", THREE, false, length),
+    ];
+    for (offsets, values, flags, is_own, cause) in table {
+        let lists = lists(offsets, values, flags);
+        assert!(rt;
+            are_told(rt.alloc(), lists, is_own, Some(cause)),
+            "{lists:?}"
+        );
+    }
+}
+
+#[test]
+fn sequences_are_those_of_the_standard(rt: HostRuntime) {
+    let table: [(&[u8], bool); 30] = [
+        (b"", true),
+        (b"\x00\x7F", true),
+        (b"\xC2\x80", true),
+        (b"\xDF\xBF", true),
+        (b"\xE0\xA0\x80", true),
+        (b"\xED\x9F\xBF", true),
+        (b"\xEE\x80\x80", true),
+        (b"\xEF\xBF\xBF", true),
+        (b"\xF0\x90\x80\x80", true),
+        (b"\xF4\x8F\xBF\xBF", true),
+        // by itself, or without its end
+        (b"\x80", false),
+        (b"\xBF", false),
+        (b"\xC2", false),
+        (b"\xE2\x82", false),
+        (b"\xF0\x9F\x98", false),
+        (b"\xC2\x80\x80", false),
+        (b"\xE2\x82a", false),
+        // overlong
+        (b"\xC0\x80", false),
+        (b"\xC1\xBF", false),
+        (b"\xE0\x80\x80", false),
+        (b"\xE0\x9F\xBF", false),
+        (b"\xF0\x80\x80\x80", false),
+        (b"\xF0\x8F\xBF\xBF", false),
+        // surrogates
+        (b"\xED\xA0\x80", false),
+        (b"\xED\xBF\xBF", false),
+        (b"\xED\xA0\xBD\xED\xB8\x80", false),
+        // past the last code point
+        (b"\xF4\x90\x80\x80", false),
+        (b"\xF5\x80\x80\x80", false),
+        (b"\xFE", false),
+        (b"\xFF", false),
+    ];
+    for (values, is_text) in table {
+        let offsets = [0, 0, values.len()];
+        let cause = if is_text {
+            None
+        } else {
+            Some(Cause::InvalidUtf8)
+        };
+        assert!(rt;
+            are_told(rt.alloc(), lists(&offsets, values, TWO), true, cause),
+            "{values:?}"
+        );
+    }
+}
+
+#[test]
+fn no_other_data_type_is_taken(rt: HostRuntime) {
+    for dtype in [
+        ArrowDataType::Binary,
+        ArrowDataType::LargeBinary,
+        ArrowDataType::BinaryView,
+        ArrowDataType::Utf8View,
+        ArrowDataType::FixedSizeBinary(1),
+        ArrowDataType::Boolean,
+        ArrowDataType::UInt8,
+        ArrowDataType::Unknown,
+    ] {
+        assert!(rt; dtype_is_refused(rt.alloc(), dtype), "{dtype:?}");
+    }
+}
+
+#[test]
+fn the_first_fault_of_raw_lists_is_told(rt: HostRuntime) -> Result<(), Fail> {
+    let table: [(&[usize], &[u8], Flags<'_>, Option<Cause>); 8] = [
+        (&[1, 3], b"\x80\xC3\xA9\x80", ONE, None),
+        (&[2], b"\xFF\xFF", None, None),
+        (&[], b"", ONE, Some(Cause::OffsetsEmpty)),
+        (&[0, 3, 2], b"\xFF", ONE, Some(Cause::OffsetsNotMonotone)),
+        (
+            &[0, 1, 3],
+            b"\xFF\xFF",
+            ONE,
+            Some(Cause::OffsetsExceedValues),
+        ),
+        (&[0, 1, 2], b"a\xFF", ONE, Some(Cause::InvalidUtf8)),
+        (&[0, 1, 2], b"\xC3\xA9", ONE, Some(Cause::CharBoundary)),
+        (&[0, 1, 2], b"ab", ONE, Some(Cause::ValidityLength)),
+    ];
+    for (offsets, values, flags, cause) in table {
+        let lists = lists(offsets, values, flags);
+        assert!(rt; raw_are_told(rt.alloc(), lists, cause)?, "{lists:?}");
+    }
+    Ok(())
+}
+
+#[test]
+fn texts_without_bytes(rt: HostRuntime) -> Result<(), Fail> {
+    assert!(rt; empty_is::<i32>(rt.alloc())? && empty_is::<i64>(rt.alloc())?);
+    assert!(rt; nulls_are::<i32>(rt.alloc())? && nulls_are::<i64>(rt.alloc())?);
+    assert!(rt; no_nulls_are(rt.alloc())?);
+    Ok(())
+}
+
+#[test]
+fn texts_are_taken_apart_and_put_together(rt: HostRuntime) -> Result<(), Fail> {
+    assert!(rt;
+        is_handed_back(four::<i32>(rt.alloc())?) && is_handed_back(four::<i64>(rt.alloc())?)
+    );
+    assert!(rt; is_made_again(four::<i32>(rt.alloc())?) && is_made_again(four::<i64>(rt.alloc())?));
+    assert!(rt;
+        is_taken_again(four::<i32>(rt.alloc())?) && is_taken_again(four::<i64>(rt.alloc())?)
+    );
+    Ok(())
+}
+
+// ---- readers and iterators
+
+#[test]
+fn four_slots_are_read(rt: HostRuntime) -> Result<(), Fail> {
+    let array = four::<i32>(rt.alloc())?;
+    assert!(rt; slots_are(&array) && dtype_is(&array, ArrowDataType::Utf8));
+    assert!(rt; rows_are(&array, &[Some("é"), None, Some(""), Some("€b")]));
+    assert!(rt; values_are(&array, &["é", "x", "", "€b"], &["é", "", "€b"]));
+    assert!(rt; places_are(&array));
+    assert!(rt; share_is(rt.alloc(), &array)? && binary_is(rt.alloc(), &array)?);
+    Ok(())
+}
+
+#[test]
+fn four_large_slots_are_read(rt: HostRuntime) -> Result<(), Fail> {
+    let array = four::<i64>(rt.alloc())?;
+    assert!(rt; slots_are(&array) && dtype_is(&array, ArrowDataType::LargeUtf8));
+    assert!(rt; large_rows_are(&array, &[Some("é"), None, Some(""), Some("€b")]));
+    assert!(rt; last_values_are(&array, &["€b", "", "x", "é"]));
+    assert!(rt; ends_are_rows(&array) && places_are(&array));
+    assert!(rt; share_is(rt.alloc(), &array)? && binary_is(rt.alloc(), &array)?);
+    Ok(())
+}
+
+// ---- parts
+
+#[test]
+fn the_slices_share_their_bytes(rt: HostRuntime) -> Result<(), Fail> {
+    let table: [((usize, usize), &[usize], Flags<'_>); 7] = [
+        ((0, 4), FOUR.offsets, FOUR.flags),
+        ((1, 3), &[3, 4, 4, 8], Some(&[false, true, true])),
+        ((1, 1), &[3, 4], Some(&[false])),
+        ((0, 1), &[1, 3], None),
+        ((2, 2), &[4, 4, 8], None),
+        ((4, 0), &[8], None),
+        ((1, 0), &[3], None),
+    ];
+    let calls = [
+        Call::Sliced,
+        Call::SlicedUnchecked,
+        Call::Slice,
+        Call::SliceUnchecked,
+    ];
+    for (range, offsets, flags) in table {
+        let wanted = lists(offsets, FOUR.values, flags);
+        for call in calls {
+            assert!(rt;
+                four_give::<i32>(rt.alloc(), call, range, wanted)?,
+                "{range:?} {call:?}"
+            );
+            assert!(rt;
+                four_give::<i64>(rt.alloc(), call, range, wanted)?,
+                "{range:?} {call:?}"
+            );
+        }
+    }
+    assert!(rt; slices_follow(rt.alloc())?);
+    Ok(())
+}
+
+#[test]
+fn texts_are_cut_in_two(rt: HostRuntime) -> Result<(), Fail> {
+    let array = four::<i32>(rt.alloc())?;
+    let front = lists(&[1, 3, 4], FOUR.values, TWO);
+    let back = lists(&[4, 4, 8], FOUR.values, None);
+    assert!(rt; halves_are(rt.alloc(), &array, (2, false), front, back)?);
+    assert!(rt; halves_are(rt.alloc(), &array, (2, true), front, back)?);
+    assert!(rt; !halves_are(rt.alloc(), &array, (5, false), front, back)?);
+    Ok(())
+}
+
+#[test]
+fn texts_are_cut_at_their_ends(rt: HostRuntime) -> Result<(), Fail> {
+    let array = four::<i64>(rt.alloc())?;
+    assert!(rt;
+        halves_are(
+            rt.alloc(),
+            &array,
+            (0, false),
+            lists(&[1], FOUR.values, None),
+            FOUR
+        )?
+    );
+    assert!(rt;
+        halves_are(
+            rt.alloc(),
+            &array,
+            (4, true),
+            FOUR,
+            lists(&[8], FOUR.values, None)
+        )?
+    );
+    Ok(())
+}
+
+// ---- other flags
+
+#[test]
+fn other_flags_stand_beside_the_same_bytes(rt: HostRuntime) -> Result<(), Fail> {
+    let table: [Flags<'_>; 3] = [Some(&[false; 4]), Some(&[true; 4]), None];
+    for flags in table {
+        assert!(rt; with_is(rt.alloc(), flags)? && set_is(rt.alloc(), flags)?);
+    }
+    assert!(rt; taken_is(four(rt.alloc())?));
+    Ok(())
+}
+
+// ---- byte strings and texts
+
+#[test]
+fn texts_are_byte_strings(rt: HostRuntime) -> Result<(), Fail> {
+    let part = lists(&[3, 4, 4], FOUR.values, Some(&[false, true]));
+    assert!(rt; into_binary_is(four::<i32>(rt.alloc())?, (0, 4), FOUR));
+    assert!(rt; into_binary_is(four::<i64>(rt.alloc())?, (1, 2), part));
+    Ok(())
+}
+
+#[test]
+fn byte_strings_are_texts_or_come_back(rt: HostRuntime) -> Result<(), Fail> {
+    let (invalid, boundary) = (Some(Cause::InvalidUtf8), Some(Cause::CharBoundary));
+    let null_last = lists(&[0, 1, 2], b"a\xFF", TWO);
+    let cut = lists(&[0, 1, 2, 3], b"\xC3\xA9a", Some(&[false, false, true]));
+    let valid = lists(&[1, 2, 3], b"\x80\xC3\xA9\x80", None);
+    // the lists, from, length, and of the slice the cause, the offsets and the flags
+    let table: [(
+        Lists<'_>,
+        usize,
+        usize,
+        Option<Cause>,
+        &[usize],
+        Option<&[bool]>,
+    ); 14] = [
+        (FOUR, 0, 4, None, FOUR.offsets, FOUR.flags),
+        (FOUR, 1, 2, None, &[3, 4, 4], Some(&[false, true])),
+        (FOUR, 2, 2, None, &[4, 4, 8], None),
+        (FOUR, 4, 0, None, &[8], None),
+        (null_last, 0, 2, invalid, &[0, 1, 2], Some(&[true, false])),
+        (null_last, 1, 1, invalid, &[1, 2], Some(&[false])),
+        (null_last, 0, 1, None, &[0, 1], None),
+        (
+            cut,
+            0,
+            3,
+            boundary,
+            &[0, 1, 2, 3],
+            Some(&[false, false, true]),
+        ),
+        (cut, 0, 2, boundary, &[0, 1, 2], Some(&[false, false])),
+        (cut, 0, 1, invalid, &[0, 1], Some(&[false])),
+        (cut, 1, 2, invalid, &[1, 2, 3], Some(&[false, true])),
+        (cut, 2, 1, None, &[2, 3], None),
+        (valid, 0, 2, boundary, &[1, 2, 3], None),
+        (valid, 1, 1, invalid, &[2, 3], None),
+    ];
+    for (lists, from, length, cause, offsets, flags) in table {
+        let wanted = crate::cases::lists(offsets, lists.values, flags);
+        let range = (from, length);
+        assert!(rt;
+            slice_is_converted::<i32>(rt.alloc(), lists, range, cause, wanted)?,
+            "{wanted:?}"
+        );
+        assert!(rt;
+            slice_is_converted::<i64>(rt.alloc(), lists, range, cause, wanted)?,
+            "{wanted:?}"
+        );
+    }
+    Ok(())
+}
