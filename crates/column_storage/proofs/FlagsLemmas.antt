@@ -1,11 +1,14 @@
 -- Laws of the flags of slots and of their parts.
-use Rattle.std.proofs.Common.{◌≡◌, ℕ, ◌+◌, ◌-◌, ◌≤◌, Bool, true, false, not, List, [], ◌∷◌, length, take, replicate, count_by, ◌==◌, if◌then◌else◌, Option, Some, None, IfSome, refl, sym, ◌∙◌, ap, arith}
-use Rattle.std.proofs.lemmas.Bool.Decides.{Decides-eqb}
+use Rattle.std.proofs.Common.{◌≡◌, ℕ, ◌+◌, ◌-◌, ◌≤◌, Bool, true, false, not, List, [], ◌∷◌, length, take, replicate, count_by, ◌==◌, if◌then◌else◌, Option, Some, None, ◌↔◌, refl, sym, ◌∙◌, ap, arith}
+use Rattle.std.proofs.lemmas.Bool.Decides.{Decides-eqb, nat_tests}
 use Rattle.std.proofs.lemmas.List.{length-replicate, take-replicate, drop-replicate}
 use Rattle.column_base.specs.Lists.{sublist}
 use Rattle.column_base.specs.Slots.{rows_of, slots_by}
+use Rattle.column_base.specs.declared.errors.Cause.TheVariants.{ValidityLength}
+use Rattle.column_base.proofs.AnswersLemmas.{cause_none}
 use Rattle.column_base.proofs.ListsLemmas.{length-sublist, sublist-sublist}
 use Rattle.column_storage.specs.Bits.{flags_of, given_bits, kept_flags, optional_values, sliced_flags}
+use Rattle.column_storage.specs.Validity.{AreFlagsOf, flags_fault}
 use Rattle.column_storage.proofs.CountsLemmas.{unset-true, unset-false, unset-none, unset-replicate}
 
 -- ---- kept flags
@@ -24,31 +27,41 @@ flags_of-kept bits n same =
     kept_if (count_by not bits == 0) bits n (λ (none : (count_by not bits == 0) ≡ true).
     all_true bits ((Decides-eqb (count_by not bits) 0).0 none) ∙ ap (λ k. replicate k true) same)
 
-kept_length : (none : Bool) (bits : List Bool) (n : ℕ) → length bits ≡ n → IfSome (if none then None else Some bits) (λ bits. length bits ≡ n)
+kept_length : (none : Bool) (bits : List Bool) (n : ℕ) → length bits ≡ n → AreFlagsOf n (if none then None else Some bits)
 kept_length true bits n same = tt
 kept_length false bits n same = same
 
-pub length-kept_flags : (bits : List Bool) (n : ℕ) → length bits ≡ n → IfSome (kept_flags bits) (λ bits. length bits ≡ n)
+pub length-kept_flags : (bits : List Bool) (n : ℕ) → length bits ≡ n → AreFlagsOf n (kept_flags bits)
 length-kept_flags bits n same = kept_length (count_by not bits == 0) bits n same
 
 -- ---- as many flags as slots
 
-pub length-flags_of : (flags : Option (List Bool)) (n : ℕ) → IfSome flags (λ bits. length bits ≡ n) → length (flags_of n flags) ≡ n
+pub length-flags_of : (flags : Option (List Bool)) (n : ℕ) → AreFlagsOf n flags → length (flags_of n flags) ≡ n
 length-flags_of None n all = length-replicate n true
 length-flags_of (Some bits) n all = all
 
-pub length-sliced_flags : (flags : Option (List Bool)) (n from k : ℕ) → IfSome flags (λ bits. length bits ≡ n) → from + k ≤ n → IfSome (sliced_flags flags from k) (λ bits. length bits ≡ k)
+pub length-sliced_flags : (flags : Option (List Bool)) (n from k : ℕ) → AreFlagsOf n flags → from + k ≤ n → AreFlagsOf k (sliced_flags flags from k)
 length-sliced_flags None n from k all within = tt
 length-sliced_flags (Some bits) n from k all within =
     length-kept_flags (sublist bits from k) k (length-sublist bits from k (omega arith))
 
+-- flags are without a fault exactly where they are as many
+pub no_flags_fault : (n : ℕ) (flags : Option (List Bool)) → (flags_fault n flags ≡ None) ↔ AreFlagsOf n flags
+no_flags_fault n None = (λ none. tt, λ all. refl)
+no_flags_fault n (Some bits) = (
+  λ none. let test : not (length bits == n) ≡ false = cause_none _ ValidityLength none in grind (arith, nat_tests),
+  λ all. let test : not (length bits == n) ≡ false = grind (arith, nat_tests) in rw test refl,
+)
+
 -- ---- the flags of a part
 
-replicate-sublist : (n from k : ℕ) → from + k ≤ n → sublist (replicate n true) from k ≡ replicate k true
+-- all of them true
+
+pub replicate-sublist : (n from k : ℕ) → from + k ≤ n → sublist (replicate n true) from k ≡ replicate k true
 replicate-sublist n from k within =
     ap (take k) (drop-replicate from n true) ∙ take-replicate k (n - from) true (omega arith)
 
-pub flags_of-sliced : (flags : Option (List Bool)) (n from k : ℕ) → IfSome flags (λ bits. length bits ≡ n) → from + k ≤ n → flags_of k (sliced_flags flags from k) ≡ sublist (flags_of n flags) from k
+pub flags_of-sliced : (flags : Option (List Bool)) (n from k : ℕ) → AreFlagsOf n flags → from + k ≤ n → flags_of k (sliced_flags flags from k) ≡ sublist (flags_of n flags) from k
 flags_of-sliced None n from k all within = sym (replicate-sublist n from k within)
 flags_of-sliced (Some bits) n from k all within =
     flags_of-kept (sublist bits from k) k (length-sublist bits from k (omega arith))
@@ -65,7 +78,7 @@ sliced_kept : (bits : List Bool) (start m : ℕ) → sliced_flags (kept_flags bi
 sliced_kept bits start m =
     sliced_if (count_by not bits == 0) bits start m (Decides-eqb (count_by not bits) 0).0
 
-pub sliced_flags-sliced : (flags : Option (List Bool)) (n from k start m : ℕ) → IfSome flags (λ bits. length bits ≡ n) → from + k ≤ n → start + m ≤ k → sliced_flags (sliced_flags flags from k) start m ≡ sliced_flags flags (from + start) m
+pub sliced_flags-sliced : (flags : Option (List Bool)) (n from k start m : ℕ) → AreFlagsOf n flags → from + k ≤ n → start + m ≤ k → sliced_flags (sliced_flags flags from k) start m ≡ sliced_flags flags (from + start) m
 sliced_flags-sliced None n from k start m all within part = refl
 sliced_flags-sliced (Some bits) n from k start m all within part =
     sliced_kept (sublist bits from k) start m ∙ ap kept_flags (sublist-sublist bits from k start m part)
@@ -77,7 +90,7 @@ all_valid [] = refl
 all_valid (x ∷ xs) = ap (λ rest. Some x ∷ rest) (all_valid xs)
 
 -- no bits say the same as a bit for each value that is set
-pub optional_values-flags : {X : Type 0} (flags : Option (List Bool)) (xs : List X) → IfSome flags (λ bits. length bits ≡ length xs) → optional_values (given_bits flags) xs ≡ optional_values (flags_of (length xs) flags) xs
+pub optional_values-flags : {X : Type 0} (flags : Option (List Bool)) (xs : List X) → AreFlagsOf (length xs) flags → optional_values (given_bits flags) xs ≡ optional_values (flags_of (length xs) flags) xs
 optional_values-flags None xs all = all_valid xs
 optional_values-flags (Some bits) xs all = refl
 

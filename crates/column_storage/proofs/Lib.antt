@@ -4,4 +4,5 @@ pub mod OptionalLemmas
 pub mod PartsLemmas
 pub mod PlacesLemmas
 pub mod RangesLemmas
+pub mod SlotsLemmas
 pub mod ValuesLemmas

@@ -1,3 +1,5 @@
 pub mod Bits
 pub mod Iterators
+pub mod Slots
+pub mod Validity
 pub mod Zipped
