@@ -5,7 +5,7 @@ use Rattle.std.proofs.lemmas.Int.{ints}
 use Rattle.std.proofs.lemmas.Bool.{cases_lt}
 use Rattle.std.proofs.lemmas.List.{length-map}
 use Rattle.std.proofs.lemmas.List.Sums.{sum_by-cons, sum_by-append}
-use Rattle.column_offset.specs.Offsets.{nat_of, offset_at, last_of, AreSoundOffsets}
+use Rattle.column_offset.specs.Offsets.{nat_of, offset_at, last_of, AreSoundOffsets, AreOffsetsWithin}
 use Rattle.std.proofs.lemmas.List.{append-nil, map-append, take-map}
 use Rattle.std.proofs.Math.Seq.{take-append_seam}
 use Rattle.std.specs.Iterator.{Yields, Drains, YieldsFirst}
@@ -62,6 +62,12 @@ rises_by z n = omega (arith, ints)
 pub sound_pushed : {X : Type 0} (f : X → ℤ) (xs : List X) (x : X) (n : ℕ) → AreSoundOffsets (map f xs) → f x ≡ last_of (map f xs) +ℤ pos n → AreSoundOffsets (map f (xs ++ x ∷ []))
 sound_pushed f xs x n sound e =
     rw (map-snoc f xs x, e) (sound_push (map f xs) (last_of (map f xs) +ℤ pos n) sound (rises_by _ n))
+
+pub within_pushed : {X : Type 0} (greatest : ℕ) (f : X → ℤ) (xs : List X) (x : X) (n next : ℕ) → AreOffsetsWithin greatest (map f xs) → f x ≡ last_of (map f xs) +ℤ pos n → f x ≡ pos next → next ≤ greatest → AreOffsetsWithin greatest (map f (xs ++ x ∷ []))
+within_pushed greatest f xs x n next within e is limit = record {
+  sound = sound_pushed f xs x n within.sound e;
+  within_type = rw (map-snoc f xs x, last_of-push (map f xs) (f x), is) (omega (arith, ints));
+}
 
 pub map_pushed : {X : Type 0} (f : X → ℤ) (xs : List X) (x : X) (n : ℕ) → f x ≡ last_of (map f xs) +ℤ pos n → map f (xs ++ x ∷ []) ≡ pushed (map f xs) n
 map_pushed f xs x n e = map-snoc f xs x ∙ ap (λ z. map f xs ++ z ∷ []) e
@@ -145,13 +151,27 @@ map-replicate f (suc n) x = ap (λ ys. f x ∷ ys) (map-replicate f n x)
 not_above : (z : ℤ) → z ≤ℤ z
 not_above z = omega (arith, ints)
 
-pub sound_constant : (k : ℕ) (offsets : List ℤ) → AreSoundOffsets offsets → AreSoundOffsets (offsets ++ replicate k (last_of offsets))
+sound_constant : (k : ℕ) (offsets : List ℤ) → AreSoundOffsets offsets → AreSoundOffsets (offsets ++ replicate k (last_of offsets))
 sound_constant zero offsets sound = rw (append-nil offsets) sound
 sound_constant (suc k) offsets sound =
     let last = last_of offsets in
     let next = sound_constant k (offsets ++ last ∷ []) (sound_push offsets last sound (not_above last)) in
     let same : last_of (offsets ++ last ∷ []) ≡ last = last_of-push offsets last in
     subst AreSoundOffsets (append_assoc offsets (last ∷ []) (replicate k last)) (subst (λ z. AreSoundOffsets ((offsets ++ last ∷ []) ++ replicate k z)) same next)
+
+last_of-constant : (k : ℕ) (offsets : List ℤ) → last_of (offsets ++ replicate k (last_of offsets)) ≡ last_of offsets
+last_of-constant zero offsets = ap last_of (append-nil offsets)
+last_of-constant (suc k) offsets =
+    let last = last_of offsets in
+    let same : last_of (offsets ++ last ∷ []) ≡ last = last_of-push offsets last in
+    ap last_of (sym (append_assoc offsets (last ∷ []) (replicate k last)) ∙ ap (λ z. (offsets ++ last ∷ []) ++ replicate k z) (sym same))
+    ∙ last_of-constant k (offsets ++ last ∷ []) ∙ same
+
+pub within_constant : (greatest k : ℕ) (offsets : List ℤ) → AreOffsetsWithin greatest offsets → AreOffsetsWithin greatest (offsets ++ replicate k (last_of offsets))
+within_constant greatest k offsets within = record {
+  sound = sound_constant k offsets within.sound;
+  within_type = rw (last_of-constant k offsets) within.within_type;
+}
 
 take_of_length_le : {X : Type 0} (n : ℕ) (xs : List X) → length xs ≤ n → take n xs ≡ xs
 take_of_length_le zero [] le = refl

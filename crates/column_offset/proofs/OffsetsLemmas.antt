@@ -7,7 +7,7 @@ use Rattle.column_base.specs.declared.errors.Cause.{Cause}
 use Rattle.column_base.specs.Answers.{◌or_else◌}
 use Rattle.column_base.specs.Lists.{sublist}
 use Rattle.column_base.proofs.ListsLemmas.{length-sublist, map-sublist}
-use Rattle.column_offset.specs.Offsets.{nat_of, offset_at, last_of, AreSoundOffsets, falls, offsets_fault}
+use Rattle.column_offset.specs.Offsets.{nat_of, offset_at, last_of, AreSoundOffsets, AreOffsetsWithin, falls, offsets_fault}
 
 -- ---- reading
 
@@ -77,6 +77,24 @@ sound_sublist offsets from n sound some within =
           (sound.never_falls (from + i) (omega arith));
     }
 
+-- the last offset of a part is at most the last of all
+last_below : (greatest : ℕ) (offsets : List ℤ) (i : ℕ) → AreOffsetsWithin greatest offsets → i < length offsets → offset_at offsets i ≤ℤ pos greatest
+last_below greatest offsets i all within =
+    let n = length offsets - 1 - i in
+    let limit = all.within_type in
+    let e : i + n ≡ length offsets - 1 = omega arith in
+    let order : offset_at offsets i ≤ℤ offset_at offsets (i + n) = in_order all.sound i n (omega arith) in
+    let order' = rw e at order in
+    omega (arith, ints)
+
+pub within_sublist : (greatest : ℕ) (offsets : List ℤ) (from n : ℕ) → AreOffsetsWithin greatest offsets → 0 < n → from + n ≤ length offsets → AreOffsetsWithin greatest (sublist offsets from n)
+within_sublist greatest offsets from n all some within =
+    let count : length (sublist offsets from n) ≡ n = length-sublist offsets from n within in
+    record {
+      sound = sound_sublist offsets from n all.sound some within;
+      within_type = rw (count, offset_at-sublist offsets from n (n - 1) (omega arith)) (last_below greatest offsets (from + (n - 1)) all (omega arith));
+    }
+
 -- ---- faults
 
 or_false_left : (a b : Bool) → a || b ≡ false → a ≡ false
@@ -141,6 +159,9 @@ read_from_zero f xs i x sound read within =
 -- what a slice of them is
 pub sound_part : {X : Type 0} (f : X → ℤ) (xs : List X) (from n : ℕ) → AreSoundOffsets (map f xs) → 0 < n → from + n ≤ length (map f xs) → AreSoundOffsets (map f (sublist xs from n))
 sound_part f xs from n sound some within = rw (map-sublist f xs from n) (sound_sublist (map f xs) from n sound some within)
+
+pub within_part : {X : Type 0} (greatest : ℕ) (f : X → ℤ) (xs : List X) (from n : ℕ) → AreOffsetsWithin greatest (map f xs) → 0 < n → from + n ≤ length (map f xs) → AreOffsetsWithin greatest (map f (sublist xs from n))
+within_part greatest f xs from n all some within = rw (map-sublist f xs from n) (within_sublist greatest (map f xs) from n all some within)
 
 pub range_is : (offsets : List ℤ) (d : ℕ) (r : ℤ) → AreSoundOffsets offsets → d + nat_of (offset_at offsets 0) ≡ nat_of (last_of offsets) → r ≡ pos d → r +ℤ offset_at offsets 0 ≡ last_of offsets
 range_is offsets d r sound e f =

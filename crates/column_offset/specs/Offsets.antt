@@ -24,6 +24,11 @@ pub record AreSoundOffsets (offsets : List ℤ) : Type 0 where
   pub starts : pos 0 ≤ℤ offset_at offsets 0
   pub never_falls : (i : ℕ) → i + 1 < length offsets → offset_at offsets i ≤ℤ offset_at offsets (i + 1)
 
+-- sound offsets, the last of which is at most the greatest value of their type
+pub record AreOffsetsWithin (greatest : ℕ) (offsets : List ℤ) : Type 0 where
+  pub sound : AreSoundOffsets offsets
+  pub within_type : last_of offsets ≤ℤ pos greatest
+
 -- some number is below the one before it
 abbrev pub falls : ℤ → List ℤ → Bool
 falls before [] = false

@@ -5,7 +5,7 @@ ghost use Rattle.column_base.specs.Answers.{Gives, Answers};
 ghost use Rattle.column_base.specs.Lists.{sublist};
 ghost use Rattle.column_offset.specs.Offsets.{AreSoundOffsets, offsets_fault, offset_at, last_of, nat_of};
 
-use crate::checks::{distance, offset_of, place, try_check_offsets};
+use crate::checks::{distance, last_place, offset_of, place, try_check_offsets};
 use crate::iterator::{Lengths, OffsetAndLengthIter};
 use crate::offsets::Offsets;
 use column_base::{Offset, PolarsError, Splitable};
@@ -24,13 +24,13 @@ pub struct OffsetsBuffer<O: Offset> {
 
 impl<O: Offset> Model for OffsetsBuffer<O> {
     ghost use Rattle.std.specs.Prelude.{List, ℤ, map};
-    ghost use Rattle.column_offset.specs.Offsets.{AreSoundOffsets};
+    ghost use Rattle.column_offset.specs.Offsets.{AreOffsetsWithin};
 
     ghost Value = { List ℤ };
 
     ghost view = { λ b. map O.int b.offsets };
 
-    ghost invariant = { λ b. AreSoundOffsets (map O.int b.offsets) };
+    ghost invariant = { λ b. AreOffsetsWithin O.GREATEST (map O.int b.offsets) };
 }
 
 #[tactic(auto, using(column_base::proofs::ListsLemmas::sublists, crate::proofs::OffsetsLemmas::sound_offsets))]
@@ -54,9 +54,7 @@ impl<O: Offset> OffsetsBuffer<O> {
         let mut offsets = Vec::with_capacity(alloc, 2)?;
         offsets.push(O::zero())?;
         offsets.push(length)?;
-        Ok(OffsetsBuffer {
-            offsets: Buffer::from_vec(alloc, offsets)?,
-        })
+        OffsetsBuffer::from_offsets(alloc, Offsets::new_unchecked(offsets))
     }
 
     /// The numbers of a vector as offsets. One pass, and the vector is not copied.
@@ -66,10 +64,7 @@ impl<O: Offset> OffsetsBuffer<O> {
     pub fn try_from_vec(alloc: Global, offsets: Vec<O>) -> Result<Self, PolarsError>
         ensures { Answers result (offsets_fault (map O.int offsets.items)) (λ b. b ≡ map O.int offsets.items) }
     {
-        try_check_offsets(offsets.as_slice())?;
-        Ok(OffsetsBuffer {
-            offsets: Buffer::from_vec(alloc, offsets)?,
-        })
+        OffsetsBuffer::from_offsets(alloc, Offsets::try_from(offsets)?)
     }
 
     /// The same list, to be shared. The offsets are not copied.
@@ -78,6 +73,7 @@ impl<O: Offset> OffsetsBuffer<O> {
     pub fn from_offsets(alloc: Global, offsets: Offsets<O>) -> Result<Self, PolarsError>
         ensures { Answers result None (λ b. b ≡ offsets.offsets) }
     {
+        offsets.known();
         Ok(OffsetsBuffer {
             offsets: Buffer::from_vec(alloc, offsets.into_inner())?,
         })
@@ -101,7 +97,7 @@ impl<O: Offset> OffsetsBuffer<O> {
         ensures { Gives result (offsets_fault (map O.int offsets)) (λ b. b ≡ map O.int offsets) }
     {
         try_check_offsets(offsets.as_slice())?;
-        Ok(OffsetsBuffer { offsets })
+        Ok(OffsetsBuffer::new_unchecked(offsets))
     }
 
     /// The same as [`OffsetsBuffer::try_from_buffer`], of sound offsets.
@@ -109,13 +105,21 @@ impl<O: Offset> OffsetsBuffer<O> {
         requires { AreSoundOffsets (map O.int offsets) }
         ensures { result ≡ map O.int offsets }
     {
+        let _last = last_place(offsets.as_slice());
         OffsetsBuffer { offsets }
+    }
+
+    /// Tells proofs that the offsets are sound, and that the last one, and so each, is a value of its type.
+    pub fn known(&self)
+        ensures sound { AreSoundOffsets self.now }
+        ensures within_type { last_of self.now ≤ℤ pos O.GREATEST }
+    {
+        let _offsets = &self.offsets;
     }
 
     /// The number of offsets, one more than that of slots.
     pub fn len(&self) -> usize
-        ensures count { result ≡ length self.now }
-        ensures sound { AreSoundOffsets self.now }
+        ensures { result ≡ length self.now }
     {
         self.offsets.len()
     }
@@ -187,6 +191,7 @@ impl<O: Offset> OffsetsBuffer<O> {
     pub fn range(&self) -> O
         ensures { O.int result +ℤ offset_at self.now 0 ≡ last_of self.now }
     {
+        self.known();
         O::from_as_usize(distance(self.as_slice(), 0, self.len() - 1))
     }
 

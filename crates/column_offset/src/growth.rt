@@ -4,7 +4,7 @@ ghost use Rattle.std.specs.Prelude.{◌≡◌, ℕ, ◌+◌, ◌<◌, ◌≤◌,
 ghost use Rattle.std.specs.Vec.{vec_len, vec_capacity};
 ghost use Rattle.std.specs.Iterator.{IsFinite};
 ghost use Rattle.column_base.specs.Answers.{Gives, Answers};
-ghost use Rattle.column_offset.specs.Offsets.{AreSoundOffsets, last_of};
+ghost use Rattle.column_offset.specs.Offsets.{AreOffsetsWithin, last_of};
 ghost use Rattle.column_offset.specs.Growth.{pushed, limit_fault, ExtendsByLengths};
 
 use crate::checks::last_place;
@@ -17,11 +17,11 @@ fn push_after<O: Offset>(
     last: usize,
     length: usize,
 ) -> Result<usize, PolarsError>
-    requires sound { AreSoundOffsets (map O.int offsets.old.items) }
+    requires within { AreOffsetsWithin O.GREATEST (map O.int offsets.old.items) }
     requires last { pos last ≡ last_of (map O.int offsets.old.items) }
     requires limit { last ≤ O.GREATEST }
     ensures answer { Answers result (limit_fault O.GREATEST (pos (last + length))) (λ next. (next ≡ last + length) × (next ≤ O.GREATEST) × (map O.int offsets.new.items ≡ pushed (map O.int offsets.old.items) length)) }
-    ensures sound { AreSoundOffsets (map O.int offsets.new.items) }
+    ensures within { AreOffsetsWithin O.GREATEST (map O.int offsets.new.items) }
     ensures room { vec_len offsets.old < vec_capacity offsets.old → Gives result (limit_fault O.GREATEST (pos (last + length))) (λ _. ⊤) }
     ensures capacity { OnOk result (vec_capacity offsets.old ≤ vec_capacity offsets.new) }
     ensures count { OnOk result (vec_len offsets.new ≡ vec_len offsets.old + 1) }
@@ -41,11 +41,11 @@ pub(crate) fn push_lengths<O: Offset, I: Iterator<Item = usize> + Drop>(
     offsets: &mut Vec<O>,
     lengths: I,
 ) -> Result<(), PolarsError>
-    requires sound { AreSoundOffsets (map O.int offsets.old.items) }
+    requires within { AreOffsetsWithin O.GREATEST (map O.int offsets.old.items) }
     requires can { I.can_next lengths }
     requires ends { IsFinite (I.remaining lengths) }
     ensures added { ExtendsByLengths I.next_gives lengths O.GREATEST (map O.int offsets.old.items) (map O.int offsets.new.items) result }
-    ensures sound { AreSoundOffsets (map O.int offsets.new.items) }
+    ensures within { AreOffsetsWithin O.GREATEST (map O.int offsets.new.items) }
     ensures kept { take (length offsets.old.items) (map O.int offsets.new.items) ≡ map O.int offsets.old.items }
 {
     let mut last = last_place(offsets.as_slice());
@@ -58,9 +58,9 @@ pub(crate) fn push_lengths<O: Offset, I: Iterator<Item = usize> + Drop>(
 /// Adds a slot of `length` to sound offsets.
 #[tactic(auto, using(crate::proofs::GrowthLemmas::growing))]
 pub(crate) fn push_length<O: Offset>(offsets: &mut Vec<O>, length: usize) -> Result<(), PolarsError>
-    requires { AreSoundOffsets (map O.int offsets.old.items) }
+    requires { AreOffsetsWithin O.GREATEST (map O.int offsets.old.items) }
     ensures answer { Answers result (limit_fault O.GREATEST (last_of (map O.int offsets.old.items) +ℤ pos length)) (λ _. map O.int offsets.new.items ≡ pushed (map O.int offsets.old.items) length) }
-    ensures sound { AreSoundOffsets (map O.int offsets.new.items) }
+    ensures within { AreOffsetsWithin O.GREATEST (map O.int offsets.new.items) }
     ensures room { vec_len offsets.old < vec_capacity offsets.old → Gives result (limit_fault O.GREATEST (last_of (map O.int offsets.old.items) +ℤ pos length)) (λ _. ⊤) }
     ensures capacity { OnOk result (vec_capacity offsets.old ≤ vec_capacity offsets.new) }
     ensures count { OnOk result (vec_len offsets.new ≡ vec_len offsets.old + 1) }

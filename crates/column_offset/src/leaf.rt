@@ -113,8 +113,8 @@ fn full_range<O: Offset>(first: &OffsetsBuffer<O>, levels: &[OffsetsBuffer<O>]) 
     ensures start { result.start ≡ leaf_place levels.now (nat_of (offset_at first.now 0)) }
     ensures end { result.end ≡ leaf_place levels.now (nat_of (last_of first.now)) }
 {
-    let last = first.len() - 1;
+    let slots = first.len_proxy();
     let start = descend(levels, level_place(first, 0));
-    let end = descend(levels, level_place(first, last));
+    let end = descend(levels, level_place(first, slots));
     start..end
 }

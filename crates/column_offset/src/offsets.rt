@@ -27,14 +27,14 @@ pub struct Offsets<O: Offset> {
 impl<O: Offset> Model for Offsets<O> {
     ghost use Rattle.std.specs.Prelude.{◌-◌, map};
     ghost use Rattle.std.specs.Vec.{vec_len, vec_capacity};
-    ghost use Rattle.column_offset.specs.Offsets.{AreSoundOffsets};
+    ghost use Rattle.column_offset.specs.Offsets.{AreOffsetsWithin};
     ghost use Rattle.column_offset.specs.Growth.{GrowingOffsets};
 
     ghost Value = { GrowingOffsets };
 
     ghost view = { λ o. record { offsets = map O.int o.offsets.items; spare = vec_capacity o.offsets - vec_len o.offsets } };
 
-    ghost invariant = { λ o. AreSoundOffsets (map O.int o.offsets.items) };
+    ghost invariant = { λ o. AreOffsetsWithin O.GREATEST (map O.int o.offsets.items) };
 }
 
 #[tactic(auto, using(crate::proofs::OffsetsLemmas::sound_offsets, crate::proofs::GrowthLemmas::growing))]
@@ -81,7 +81,7 @@ impl<O: Offset> Offsets<O> {
         ensures { Gives result (offsets_fault (map O.int offsets.items)) (λ o. o.offsets ≡ map O.int offsets.items) }
     {
         try_check_offsets(offsets.as_slice())?;
-        Ok(Offsets { offsets })
+        Ok(Offsets::new_unchecked(offsets))
     }
 
     /// The same as [`Offsets::try_from`], of sound offsets.
@@ -89,7 +89,16 @@ impl<O: Offset> Offsets<O> {
         requires { AreSoundOffsets (map O.int offsets.items) }
         ensures { result.offsets ≡ map O.int offsets.items }
     {
+        let _last = last_place(offsets.as_slice());
         Offsets { offsets }
+    }
+
+    /// Tells proofs that the offsets are sound, and that the last one, and so each, is a value of its type.
+    pub fn known(&self)
+        ensures sound { AreSoundOffsets self.now.offsets }
+        ensures within_type { last_of self.now.offsets ≤ℤ pos O.GREATEST }
+    {
+        let _offsets = &self.offsets;
     }
 
     /// For how many offsets there is memory.
@@ -101,8 +110,7 @@ impl<O: Offset> Offsets<O> {
 
     /// The number of offsets, one more than that of slots.
     pub fn len(&self) -> usize
-        ensures count { result ≡ length self.now.offsets }
-        ensures sound { AreSoundOffsets self.now.offsets }
+        ensures { result ≡ length self.now.offsets }
     {
         self.offsets.len()
     }

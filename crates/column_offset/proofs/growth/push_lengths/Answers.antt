@@ -24,7 +24,7 @@ returns-clause-kept g c = kept_front _ _ _ c.loop-length.yielded c.loop-length.i
 pub loop-length-preserved : goal.loop-length-preserved
 loop-length-preserved g c = record {
   added = c.in_ok-last.ensures.answer.1.2 ∙ ap (λ offsets. pushed offsets c.in-Some.length) c.loop-length.invariant.added ∙ sym (extended-snoc _ c.loop-length.yielded c.in-Some.length);
-  sound = c.in_ok-last.ensures.sound;
+  within = c.in_ok-last.ensures.within;
   last = sum_more _ _ _ _ c.loop-length.yielded c.in_ok-last.ensures.answer.1.0 c.loop-length.invariant.last;
   limit = c.in_ok-last.ensures.answer.1.1;
 }
