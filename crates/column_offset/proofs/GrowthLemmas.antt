@@ -14,7 +14,7 @@ use Rattle.column_base.specs.declared.errors.PolarsError.TheVariants.{ComputeErr
 use Rattle.column_base.specs.declared.errors.Cause.{Cause}
 use Rattle.column_base.specs.declared.errors.Cause.TheVariants.{Overflow}
 use Rattle.column_base.specs.Answers.{Answers, cause_if}
-use Rattle.column_base.proofs.AnswersLemmas.{answers_err}
+use Rattle.column_base.proofs.AnswersLemmas.{cause_some, answers_err}
 use Rattle.column_offset.specs.Growth.{pushed, extended, lengths_of, limit_fault, ExtendsByLengths}
 use Rattle.column_offset.proofs.OffsetsLemmas.{from_zero, pos-nat_of}
 
@@ -195,16 +195,18 @@ on_err (Err e) P p = p
 
 -- ---- the lengths of a list
 
-from_cause_if : (b : Bool) (c d : Cause) → cause_if b c ≡ Some d → (b ≡ true) × (c ≡ d)
-from_cause_if true c d e = (refl, cc)
-from_cause_if false c d e = absurd (cc)
+not_passed : (greatest : ℕ) (last : ℤ) → last ≤ℤ pos greatest → int_lt (pos greatest) last ≡ false
+not_passed greatest last below = grind (arith, ints)
+
+pub within_limit : (greatest : ℕ) (last : ℤ) → last ≤ℤ pos greatest → limit_fault greatest last ≡ None
+within_limit greatest last below = rw (not_passed greatest last below) refl
 
 limit_passed : (greatest n m : ℕ) (last : ℤ) → n ≤ m → int_lt (pos greatest) (last +ℤ pos n) ≡ true → int_lt (pos greatest) (last +ℤ pos m) ≡ true
 limit_passed greatest n m last le e = grind (arith, ints)
 
 limit_more : (greatest n m : ℕ) (last : ℤ) (cause : Cause) → n ≤ m → limit_fault greatest (last +ℤ pos n) ≡ Some cause → limit_fault greatest (last +ℤ pos m) ≡ Some cause
 limit_more greatest n m last cause le e =
-    let parts = from_cause_if (int_lt (pos greatest) (last +ℤ pos n)) Overflow cause e in
+    let parts = cause_some (int_lt (pos greatest) (last +ℤ pos n)) Overflow cause e in
     rw (limit_passed greatest n m last le parts.0) (ap Some parts.1)
 
 module _ {S : Type 0} (rest : S → List ℕ) where

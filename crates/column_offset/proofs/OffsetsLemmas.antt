@@ -3,8 +3,9 @@ use Rattle.std.proofs.Common.{◌≡◌, ℕ, zero, suc, ◌+◌, ◌-◌, ◌<�
 use Rattle.std.specs.Prelude.{◌≤ℤ◌, ◌<ℤ◌, ◌+ℤ◌, int_lt, Bool, true, false, ◌||◌, slice_index_or, slice_get, Option, Some, None, if◌then◌else◌}
 use Rattle.std.proofs.lemmas.Int.{ints}
 use Rattle.std.proofs.lemmas.List.{length-map, map-append, get_or-map, take_more}
-use Rattle.column_base.specs.declared.errors.Cause.{Cause}
-use Rattle.column_base.specs.Answers.{◌or_else◌}
+use Rattle.column_base.specs.declared.errors.Cause.TheVariants.{OffsetsNegative, OffsetsNotMonotone}
+use Rattle.column_base.specs.Answers.{cause_if}
+use Rattle.column_base.proofs.AnswersLemmas.{cause_none, first_none}
 use Rattle.column_base.specs.Lists.{sublist}
 use Rattle.column_base.proofs.ListsLemmas.{length-sublist, map-sublist}
 use Rattle.column_offset.specs.Offsets.{nat_of, offset_at, last_of, AreSoundOffsets, AreOffsetsWithin, falls, offsets_fault}
@@ -124,20 +125,14 @@ falls_not before (n ∷ ns) order =
     rw (not_below_back before n (order 0 (omega arith)))
     (falls_not n ns (λ i below. let s : suc i + 1 ≡ suc (i + 1) = omega arith in let step = order (suc i) (omega arith) in rw s at step))
 
--- the two causes of a list that is not empty
-first_none : (a b : Bool) (c d : Cause) → (if a then Some c else None) or_else (if b then Some d else None) ≡ None → (a ≡ false) × (b ≡ false)
-first_none false false c d e = (refl, refl)
-first_none false true c d e = (refl, cc)
-first_none true b c d e = (cc, cc)
-
 pub sound_where_no_fault : (offsets : List ℤ) → offsets_fault offsets ≡ None → AreSoundOffsets offsets
 sound_where_no_fault [] e = absurd (cc)
 sound_where_no_fault (n ∷ ns) e =
-    let parts = first_none (int_lt n (pos 0)) (falls n ns) _ _ e in
+    let parts = first_none (cause_if (int_lt n (pos 0)) OffsetsNegative) (cause_if (falls n ns) OffsetsNotMonotone) e in
     record {
       not_empty = omega arith;
-      starts = not_below (pos 0) n parts.0;
-      never_falls = never_falls_from n ns parts.1;
+      starts = not_below (pos 0) n (cause_none _ OffsetsNegative parts.0);
+      never_falls = never_falls_from n ns (cause_none _ OffsetsNotMonotone parts.1);
     }
 
 pub no_fault_where_sound : (offsets : List ℤ) → AreSoundOffsets offsets → offsets_fault offsets ≡ None

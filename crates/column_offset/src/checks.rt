@@ -1,6 +1,6 @@
 //! Checks of raw parts.
 
-ghost use Rattle.std.specs.Prelude.{◌≡◌, ℕ, ◌+◌, ◌<◌, ◌≤◌, pos, ◌≤ℤ◌, length, map, ⊤};
+ghost use Rattle.std.specs.Prelude.{◌≡◌, ◌↔◌, ℕ, ℤ, List, None, ◌+◌, ◌<◌, ◌≤◌, pos, ◌≤ℤ◌, length, map, ⊤};
 ghost use Rattle.column_base.specs.Answers.{Gives};
 ghost use Rattle.column_offset.specs.Offsets.{nat_of, offset_at, last_of, offsets_fault, bounds_fault, AreSoundOffsets};
 
@@ -30,6 +30,11 @@ pub fn try_check_offsets<O: Offset>(offsets: &[O]) -> Result<(), PolarsError>
     }
     Ok(())
 }
+
+/// Law of sound offsets: [`try_check_offsets`] finds no fault exactly where numbers are sound offsets.
+pub fn no_fault_is_sound()
+    ensures { (offsets : List ℤ) → (offsets_fault offsets ≡ None) ↔ AreSoundOffsets offsets }
+{}
 
 /// Whether sound offsets lie within `values_len` values. Takes no memory.
 ///

@@ -7,7 +7,7 @@ use column_base::Offset;
 /// Sound offsets, growing or shared.
 pub trait OffsetsContainer<O: Offset> {
     ghost use Rattle.std.specs.Prelude.{◌≡◌, List, ℤ, pos, map};
-    ghost use Rattle.column_offset.specs.Offsets.{last_of};
+    ghost use Rattle.column_offset.specs.Offsets.{AreSoundOffsets, last_of};
 
     // the offsets
     ghost offsets: { Self → List ℤ };
@@ -18,7 +18,8 @@ pub trait OffsetsContainer<O: Offset> {
 
     /// The offsets as a slice.
     fn as_slice(&self) -> &[O]
-        ensures { map O.int result.now ≡ offsets self.now };
+        ensures same { map O.int result.now ≡ offsets self.now }
+        ensures sound { AreSoundOffsets (map O.int result.now) };
 }
 
 impl<O: Offset> OffsetsContainer<O> for OffsetsBuffer<O> {

@@ -1,6 +1,6 @@
 //! Offsets of 32 bits as offsets of 64, and back.
 
-ghost use Rattle.std.specs.Prelude.{◌≡◌, ℤ, pos, ◌≤ℤ◌, List, map, None};
+ghost use Rattle.std.specs.Prelude.{◌≡◌, map, None};
 ghost use Rattle.column_base.specs.Answers.{Answers};
 ghost use Rattle.column_offset.specs.Offsets.{AreSoundOffsets, last_of};
 ghost use Rattle.column_offset.specs.Growth.{limit_fault};
@@ -49,6 +49,7 @@ impl Offsets<i64> {
     }
 }
 
+#[tactic(auto, using(crate::proofs::GrowthLemmas::within_limit))]
 impl Offsets<i32> {
     /// The same offsets in 32 bits.
     ///
@@ -57,6 +58,14 @@ impl Offsets<i32> {
         ensures { Answers result (limit_fault 2147483647 (last_of offsets.offsets)) (λ o. o.offsets ≡ offsets.offsets) }
     {
         Ok(Offsets::new_unchecked(narrowed(alloc, offsets.as_slice())?))
+    }
+
+    /// Law of widening: to 64 bits and back the offsets are the same, and nothing is refused but for want of memory.
+    pub fn widen_and_narrow(alloc: Global, offsets: Offsets<i32>) -> Result<Self, PolarsError>
+        ensures { Answers result None (λ o. o.offsets ≡ offsets.offsets) }
+    {
+        offsets.known();
+        Offsets::<i32>::narrow(alloc, Offsets::<i64>::widen(alloc, offsets)?)
     }
 }
 
@@ -72,6 +81,7 @@ impl OffsetsBuffer<i64> {
     }
 }
 
+#[tactic(auto, using(crate::proofs::GrowthLemmas::within_limit))]
 impl OffsetsBuffer<i32> {
     /// The same offsets in 32 bits.
     ///
@@ -82,10 +92,16 @@ impl OffsetsBuffer<i32> {
         let narrow = narrowed(alloc, offsets.as_slice())?;
         Ok(OffsetsBuffer::new_unchecked(Buffer::from_vec(alloc, narrow)?))
     }
-}
 
-/// Law of widening: offsets that fit 32 bits are not refused by the way back, which keeps the numbers, as the way there
-/// does.
-pub fn widened_is_narrow()
-    ensures { (offsets : List ℤ) → last_of offsets ≤ℤ pos 2147483647 → limit_fault 2147483647 (last_of offsets) ≡ None }
-{}
+    /// Law of widening: to 64 bits and back the offsets are the same, and nothing is refused but for want of memory.
+    pub fn widen_and_narrow(
+        alloc: Global,
+        offsets: &OffsetsBuffer<i32>,
+    ) -> Result<Self, PolarsError>
+        ensures { Answers result None (λ b. b ≡ offsets.now) }
+    {
+        offsets.known();
+        let wide = OffsetsBuffer::<i64>::widen(alloc, offsets)?;
+        OffsetsBuffer::<i32>::narrow(alloc, &wide)
+    }
+}

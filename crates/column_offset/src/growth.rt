@@ -1,9 +1,11 @@
 //! How lists of offsets grow.
 
-ghost use Rattle.std.specs.Prelude.{◌≡◌, ℕ, ◌+◌, ◌<◌, ◌≤◌, pos, ◌≤ℤ◌, ◌+ℤ◌, length, take, map, ⊤, OnOk, OnErr};
+ghost use Rattle.std.specs.Prelude.{◌≡◌, ℕ, ◌+◌, ◌<◌, ◌≤◌, pos, ◌≤ℤ◌, ◌+ℤ◌, length, take, map, ⊤, OnOk, OnErr, Err};
 ghost use Rattle.std.specs.Vec.{vec_len, vec_capacity};
 ghost use Rattle.std.specs.Iterator.{IsFinite};
+ghost use Rattle.column_base.specs.declared.errors.Cause.TheVariants.{Overflow};
 ghost use Rattle.column_base.specs.Answers.{Gives, Answers};
+ghost use Rattle.column_base.specs.Errors.{error_of};
 ghost use Rattle.column_offset.specs.Offsets.{AreOffsetsWithin, last_of};
 ghost use Rattle.column_offset.specs.Growth.{pushed, limit_fault, ExtendsByLengths};
 
@@ -23,9 +25,10 @@ fn push_after<O: Offset>(
     ensures answer { Answers result (limit_fault O.GREATEST (pos (last + length))) (λ next. (next ≡ last + length) × (next ≤ O.GREATEST) × (map O.int offsets.new.items ≡ pushed (map O.int offsets.old.items) length)) }
     ensures within { AreOffsetsWithin O.GREATEST (map O.int offsets.new.items) }
     ensures room { vec_len offsets.old < vec_capacity offsets.old → Gives result (limit_fault O.GREATEST (pos (last + length))) (λ _. ⊤) }
-    ensures capacity { OnOk result (vec_capacity offsets.old ≤ vec_capacity offsets.new) }
+    ensures capacity { vec_capacity offsets.old ≤ vec_capacity offsets.new }
     ensures count { OnOk result (vec_len offsets.new ≡ vec_len offsets.old + 1) }
     ensures unchanged { OnErr result (offsets.new.items ≡ offsets.old.items) }
+    ensures untouched { result ≡ Err (error_of Overflow) → offsets.new ≡ offsets.old }
 {
     if length > O::GREATEST - last {
         return Err(Cause::Overflow.into());
@@ -46,6 +49,7 @@ pub(crate) fn push_lengths<O: Offset, I: Iterator<Item = usize> + Drop>(
     requires ends { IsFinite (I.remaining lengths) }
     ensures added { ExtendsByLengths I.next_gives lengths O.GREATEST (map O.int offsets.old.items) (map O.int offsets.new.items) result }
     ensures within { AreOffsetsWithin O.GREATEST (map O.int offsets.new.items) }
+    ensures capacity { vec_capacity offsets.old ≤ vec_capacity offsets.new }
     ensures kept { take (length offsets.old.items) (map O.int offsets.new.items) ≡ map O.int offsets.old.items }
 {
     let mut last = last_place(offsets.as_slice());
@@ -62,9 +66,10 @@ pub(crate) fn push_length<O: Offset>(offsets: &mut Vec<O>, length: usize) -> Res
     ensures answer { Answers result (limit_fault O.GREATEST (last_of (map O.int offsets.old.items) +ℤ pos length)) (λ _. map O.int offsets.new.items ≡ pushed (map O.int offsets.old.items) length) }
     ensures within { AreOffsetsWithin O.GREATEST (map O.int offsets.new.items) }
     ensures room { vec_len offsets.old < vec_capacity offsets.old → Gives result (limit_fault O.GREATEST (last_of (map O.int offsets.old.items) +ℤ pos length)) (λ _. ⊤) }
-    ensures capacity { OnOk result (vec_capacity offsets.old ≤ vec_capacity offsets.new) }
+    ensures capacity { vec_capacity offsets.old ≤ vec_capacity offsets.new }
     ensures count { OnOk result (vec_len offsets.new ≡ vec_len offsets.old + 1) }
     ensures unchanged { OnErr result (offsets.new.items ≡ offsets.old.items) }
+    ensures untouched { result ≡ Err (error_of Overflow) → offsets.new ≡ offsets.old }
 {
     let last = last_place(offsets.as_slice());
     push_after(offsets, last, length)?;

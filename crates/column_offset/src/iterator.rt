@@ -28,8 +28,9 @@ impl<'a, O: Offset> Lengths<'a, O> {
 
 #[tactic(auto, using(crate::proofs::SlotsLemmas::slots))]
 impl<'a, O: Offset> Iterator for Lengths<'a, O> {
-    ghost use Rattle.std.specs.Prelude.{map};
-    ghost use Rattle.std.specs.Iterator.{YieldsFirst, item_count};
+    ghost use Rattle.std.specs.Prelude.{◌≡◌, length, map, Some, IfSome};
+    ghost use Rattle.std.specs.Iterator.{YieldsFirst, item_count, UpTo, at_most};
+    ghost use Rattle.std.specs.Iterator.SizeHint.{IsWithinCount};
     ghost use Rattle.column_offset.specs.Growth.{lengths_of};
 
     type Item = usize;
@@ -47,7 +48,11 @@ impl<'a, O: Offset> Iterator for Lengths<'a, O> {
         Some(length)
     }
 
-    fn size_hint(&self) -> (usize, Option<usize>) {
+    fn size_hint(&self) -> (usize, Option<usize>)
+        ensures lower { IsWithinCount result.0 (at_most (length (lengths_of (map O.int self.now.offsets.now)))) }
+        ensures upper { IfSome result.1 (UpTo (at_most (length (lengths_of (map O.int self.now.offsets.now))))) }
+        ensures exact { let left = length (lengths_of (map O.int self.now.offsets.now)) in result ≡ (left, Some left) }
+    {
         let left = self.offsets.len() - 1;
         (left, Some(left))
     }
@@ -83,8 +88,9 @@ impl<'a, O: Offset> OffsetAndLengthIter<'a, O> {
 
 #[tactic(auto, using(crate::proofs::SlotsLemmas::slots))]
 impl<'a, O: Offset> Iterator for OffsetAndLengthIter<'a, O> {
-    ghost use Rattle.std.specs.Prelude.{map};
-    ghost use Rattle.std.specs.Iterator.{YieldsFirst, item_count};
+    ghost use Rattle.std.specs.Prelude.{◌≡◌, length, map, Some, IfSome};
+    ghost use Rattle.std.specs.Iterator.{YieldsFirst, item_count, UpTo, at_most};
+    ghost use Rattle.std.specs.Iterator.SizeHint.{IsWithinCount};
     ghost use Rattle.column_offset.specs.Growth.{starts_and_lengths_of};
 
     type Item = (usize, usize);
@@ -103,7 +109,11 @@ impl<'a, O: Offset> Iterator for OffsetAndLengthIter<'a, O> {
         Some((start, length))
     }
 
-    fn size_hint(&self) -> (usize, Option<usize>) {
+    fn size_hint(&self) -> (usize, Option<usize>)
+        ensures lower { IsWithinCount result.0 (at_most (length (starts_and_lengths_of (map O.int self.now.offsets.now)))) }
+        ensures upper { IfSome result.1 (UpTo (at_most (length (starts_and_lengths_of (map O.int self.now.offsets.now))))) }
+        ensures exact { let left = length (starts_and_lengths_of (map O.int self.now.offsets.now)) in result ≡ (left, Some left) }
+    {
         let left = self.offsets.len() - 1;
         (left, Some(left))
     }

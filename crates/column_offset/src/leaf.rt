@@ -46,8 +46,9 @@ pub struct LeafRanges<'a, O: Offset> {
 
 #[tactic(auto, using(crate::proofs::LeavesLemmas::leaves, crate::proofs::OffsetsLemmas::sound_offsets, crate::proofs::SlotsLemmas::slots))]
 impl<'a, O: Offset> Iterator for LeafRanges<'a, O> {
-    ghost use Rattle.std.specs.Prelude.{map};
-    ghost use Rattle.std.specs.Iterator.{YieldsFirstBy, item_count};
+    ghost use Rattle.std.specs.Prelude.{◌≡◌, length, map, Some, IfSome};
+    ghost use Rattle.std.specs.Iterator.{YieldsFirstBy, item_count, UpTo, at_most};
+    ghost use Rattle.std.specs.Iterator.SizeHint.{IsWithinCount};
     ghost use Rattle.column_offset.specs.Leaves.{leaf_ranges};
 
     type Item = Range<usize>;
@@ -66,7 +67,11 @@ impl<'a, O: Offset> Iterator for LeafRanges<'a, O> {
         Some(start..end)
     }
 
-    fn size_hint(&self) -> (usize, Option<usize>) {
+    fn size_hint(&self) -> (usize, Option<usize>)
+        ensures lower { IsWithinCount result.0 (at_most (length (leaf_ranges (map O.int self.now.offsets.now) self.now.levels.now))) }
+        ensures upper { IfSome result.1 (UpTo (at_most (length (leaf_ranges (map O.int self.now.offsets.now) self.now.levels.now)))) }
+        ensures exact { let left = length (leaf_ranges (map O.int self.now.offsets.now) self.now.levels.now) in result ≡ (left, Some left) }
+    {
         let left = self.offsets.len() - 1;
         (left, Some(left))
     }

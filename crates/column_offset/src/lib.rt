@@ -16,11 +16,10 @@ mod offsets;
 mod text;
 
 pub use buffer::OffsetsBuffer;
-pub use checks::{try_check_offsets, try_check_offsets_bounds};
+pub use checks::{no_fault_is_sound, try_check_offsets, try_check_offsets_bounds};
 pub use container::OffsetsContainer;
-pub use convert::widened_is_narrow;
 pub use iterator::{Lengths, OffsetAndLengthIter};
 pub use keys::{IndexKey, check_indexes};
 pub use leaf::LeafRanges;
 pub use offsets::Offsets;
-pub use text::{slots_decide, try_check_utf8};
+pub use text::{slots_decide, slots_end_to_end, try_check_utf8};

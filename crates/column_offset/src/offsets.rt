@@ -1,8 +1,10 @@
 //! Offsets that grow.
 
-ghost use Rattle.std.specs.Prelude.{◌≡◌, ℕ, ◌+◌, ◌-◌, ◌^◌, ◌<◌, ◌≤◌, ℤ, pos, ◌≤ℤ◌, ◌+ℤ◌, List, [], ◌∷◌, ◌++◌, ◌⊎◌, length, length as list_length, map, replicate, sum, None, ⊤, OnOk, OnErr, MatchOption, IsOk};
+ghost use Rattle.std.specs.Prelude.{◌≡◌, ℕ, ◌+◌, ◌-◌, ◌^◌, ◌<◌, ◌≤◌, ℤ, pos, ◌≤ℤ◌, ◌+ℤ◌, List, [], ◌∷◌, ◌++◌, ◌⊎◌, length, length as list_length, map, replicate, sum, None, ⊤, OnOk, OnErr, MatchOption, IsOk, Err};
 ghost use Rattle.std.specs.Iterator.{IsFinite};
+ghost use Rattle.column_base.specs.declared.errors.Cause.TheVariants.{Overflow};
 ghost use Rattle.column_base.specs.Answers.{Gives, Answers};
+ghost use Rattle.column_base.specs.Errors.{error_of};
 ghost use Rattle.column_base.specs.Lists.{sublist};
 ghost use Rattle.column_offset.specs.Offsets.{AreSoundOffsets, offsets_fault, offset_at, last_of, nat_of};
 ghost use Rattle.column_offset.specs.Growth.{pushed, extended, lengths_of, limit_fault, ExtendsByLengths, MadeByLengths};
@@ -101,11 +103,11 @@ impl<O: Offset> Offsets<O> {
         let _offsets = &self.offsets;
     }
 
-    /// For how many offsets there is memory.
+    /// For how many slots there is memory.
     pub fn capacity(&self) -> usize
-        ensures { result ≡ length self.now.offsets + self.now.spare }
+        ensures { result + 1 ≡ length self.now.offsets + self.now.spare }
     {
-        self.offsets.capacity()
+        self.offsets.capacity() - 1
     }
 
     /// The number of offsets, one more than that of slots.
@@ -193,6 +195,7 @@ impl<O: Offset> Offsets<O> {
     pub fn reserve(&mut self, additional: usize) -> Result<(), PolarsError>
         ensures answer { Answers result None (λ _. (self.new.offsets ≡ self.old.offsets) × (additional ≤ self.new.spare)) }
         ensures spare_serves { additional ≤ self.old.spare → IsOk result }
+        ensures spare_kept { self.old.spare ≤ self.new.spare }
         ensures unchanged { OnErr result (self.new ≡ self.old) }
     {
         self.offsets.reserve(additional)?;
@@ -201,7 +204,8 @@ impl<O: Offset> Offsets<O> {
 
     /// Gives back memory that no offset needs, where the allocator takes it.
     pub fn shrink_to_fit(&mut self)
-        ensures { self.new.offsets ≡ self.old.offsets }
+        ensures offsets { self.new.offsets ≡ self.old.offsets }
+        ensures spare { self.new.spare ≤ self.old.spare }
     {
         self.offsets.shrink_to_fit();
     }
@@ -214,7 +218,9 @@ impl<O: Offset> Offsets<O> {
         ensures answer { Answers result (limit_fault O.GREATEST (last_of self.old.offsets +ℤ pos length)) (λ _. self.new.offsets ≡ pushed self.old.offsets length) }
         ensures spare_serves { 0 < self.old.spare → Gives result (limit_fault O.GREATEST (last_of self.old.offsets +ℤ pos length)) (λ _. ⊤) }
         ensures spare_left { OnOk result (self.old.spare ≤ self.new.spare + 1) }
+        ensures spare_kept { OnErr result (self.old.spare ≤ self.new.spare) }
         ensures unchanged { OnErr result (self.new.offsets ≡ self.old.offsets) }
+        ensures untouched { result ≡ Err (error_of Overflow) → self.new ≡ self.old }
     {
         push_length(&mut self.offsets, length)
     }
@@ -237,6 +243,7 @@ impl<O: Offset> Offsets<O> {
         ensures answer { Answers result None (λ _. self.new.offsets ≡ self.old.offsets ++ replicate additional (last_of self.old.offsets)) }
         ensures spare_serves { additional ≤ self.old.spare → IsOk result }
         ensures spare_left { OnOk result (self.old.spare ≤ self.new.spare + additional) }
+        ensures spare_kept { OnErr result (self.old.spare ≤ self.new.spare) }
         ensures unchanged { OnErr result (self.new.offsets ≡ self.old.offsets) }
     {
         let last = *self.last();
@@ -257,6 +264,7 @@ impl<O: Offset> Offsets<O> {
         requires can { I.can_next lengths }
         requires ends { IsFinite (I.remaining lengths) }
         ensures answer { ExtendsByLengths I.next_gives lengths O.GREATEST self.old.offsets self.new.offsets result }
+        ensures spare_kept { OnErr result (self.old.spare ≤ self.new.spare) }
         ensures unchanged { OnErr result (self.new.offsets ≡ self.old.offsets) }
     {
         let count = self.offsets.len();
@@ -273,6 +281,7 @@ impl<O: Offset> Offsets<O> {
     /// none for the offsets.
     pub fn try_extend_from_self(&mut self, other: &Self) -> Result<(), PolarsError>
         ensures answer { Answers result (limit_fault O.GREATEST (last_of self.old.offsets +ℤ pos (sum (lengths_of other.now.offsets)))) (λ _. self.new.offsets ≡ extended self.old.offsets (lengths_of other.now.offsets)) }
+        ensures spare_kept { OnErr result (self.old.spare ≤ self.new.spare) }
         ensures unchanged { OnErr result (self.new.offsets ≡ self.old.offsets) }
     {
         self.try_extend_from_lengths(Lengths::new(other.as_slice()))
@@ -321,9 +330,20 @@ impl<O: Offset> Offsets<O> {
     ) -> Result<(), PolarsError>
         requires { (length ≡ 0) ⊎ (start + length < list_length other.now) }
         ensures answer { Answers result (limit_fault O.GREATEST (last_of self.old.offsets +ℤ pos (sum (sublist (lengths_of other.now) start length)))) (λ _. self.new.offsets ≡ extended self.old.offsets (sublist (lengths_of other.now) start length)) }
+        ensures spare_kept { OnErr result (self.old.spare ≤ self.new.spare) }
         ensures unchanged { OnErr result (self.new.offsets ≡ self.old.offsets) }
     {
         self.try_extend_from_lengths(Lengths::new(slots_of(other.as_slice(), start, length)))
+    }
+
+    /// A copy of the list.
+    ///
+    /// `NoMemory` where there is none for it.
+    pub fn try_clone(&self) -> Result<Self, PolarsError>
+        ensures { Answers result None (λ o. o.offsets ≡ self.now.offsets) }
+    {
+        let offsets = Vec::from_slice(*self.offsets.allocator(), self.offsets.as_slice())?;
+        Ok(Offsets { offsets })
     }
 }
 

@@ -38,6 +38,12 @@ pub fn slots_decide()
         → (cut_fault offsets values ≡ None) ↔ (are_well_formed_utf8 (pieces offsets values) ≡ true) }
 {}
 
+/// Law of slots end to end: of sound offsets they are the bytes from the first offset up to the last.
+pub fn slots_end_to_end()
+    ensures { (offsets : List ℤ) (values : List ℕ) → AreSoundOffsets offsets
+        → concat (pieces offsets values) ≡ slice_range values (nat_of (offset_at offsets 0)) (nat_of (last_of offsets)) }
+{}
+
 /// Whether each slot is UTF-8. The offsets are sound, and within the values.
 #[tactic(auto, using(crate::proofs::TextLemmas::texts, crate::proofs::OffsetsLemmas::sound_offsets))]
 fn slots_are_utf8<O: Offset>(offsets: &[O], values: &[u8]) -> bool

@@ -1,4 +1,4 @@
-use Rattle.std.proofs.Common.{◌∙◌, sym, ap, subst, map, Err}
+use Rattle.std.proofs.Common.{◌∙◌, sym, ap, subst, map, Err, arith}
 use Rattle.std.proofs.lemmas.Result.{err_from_is_err_and}
 use Rattle.std.specs.Iterator.{Yields}
 use Rattle.column_offset.specs.Growth.{pushed}
@@ -26,5 +26,6 @@ loop-length-preserved g c = record {
   added = c.in_ok-last.ensures.answer.1.2 ∙ ap (λ offsets. pushed offsets c.in-Some.length) c.loop-length.invariant.added ∙ sym (extended-snoc _ c.loop-length.yielded c.in-Some.length);
   within = c.in_ok-last.ensures.within;
   last = sum_more _ _ _ _ c.loop-length.yielded c.in_ok-last.ensures.answer.1.0 c.loop-length.invariant.last;
+  capacity = omega (arith, c.loop-length.invariant.capacity, c.in_ok-last.ensures.capacity);
   limit = c.in_ok-last.ensures.answer.1.1;
 }
