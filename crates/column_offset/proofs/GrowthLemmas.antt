@@ -6,7 +6,7 @@ use Rattle.std.proofs.lemmas.Bool.{cases_lt}
 use Rattle.std.proofs.lemmas.List.{length-map}
 use Rattle.std.proofs.lemmas.List.Sums.{sum_by-cons, sum_by-append}
 use Rattle.column_offset.specs.Offsets.{nat_of, offset_at, last_of, AreSoundOffsets, AreOffsetsWithin}
-use Rattle.std.proofs.lemmas.List.{append-nil, map-append, take-map}
+use Rattle.std.proofs.lemmas.List.{append-nil, map-append, take-map, take_all, take-take}
 use Rattle.std.proofs.Math.Seq.{take-append_seam}
 use Rattle.std.specs.Iterator.{Yields, Drains, YieldsFirst}
 use Rattle.column_base.specs.declared.errors.PolarsError.{PolarsError}
@@ -92,22 +92,30 @@ pub extended-snoc : (offsets : List ℤ) (lengths : List ℕ) (n : ℕ) → exte
 extended-snoc offsets [] n = refl
 extended-snoc offsets (m ∷ lengths) n = extended-snoc (pushed offsets m) lengths n
 
--- the offsets that follow a last one
-running : ℤ → List ℕ → List ℤ
-running last [] = []
-running last (n ∷ lengths) = (last +ℤ pos n) ∷ running (last +ℤ pos n) lengths
+pub length-extended : (offsets : List ℤ) (lengths : List ℕ) → length (extended offsets lengths) ≡ length offsets + length lengths
+length-extended offsets [] = omega arith
+length-extended offsets (n ∷ lengths) =
+    let count = length-append offsets ((last_of offsets +ℤ pos n) ∷ []) in
+    let more = length-extended (pushed offsets n) lengths in
+    omega arith
 
-extended-running : (offsets : List ℤ) (lengths : List ℕ) → extended offsets lengths ≡ offsets ++ running (last_of offsets) lengths
-unfolding running
-extended-running offsets [] = sym (append-nil offsets)
-extended-running offsets (n ∷ lengths) =
+front-extended : (offsets : List ℤ) (lengths : List ℕ) → take (length offsets) (extended offsets lengths) ≡ offsets
+front-extended offsets [] = take_all (length offsets) offsets (omega arith)
+front-extended offsets (n ∷ lengths) =
     let next = last_of offsets +ℤ pos n in
-    extended-running (pushed offsets n) lengths
-    ∙ ap (λ last. pushed offsets n ++ running last lengths) (last_of-push offsets next)
-    ∙ append_assoc offsets (next ∷ []) (running next lengths)
+    let count = length-append offsets (next ∷ []) in
+    sym (take-take (length offsets) (length (pushed offsets n)) (extended (pushed offsets n) lengths) (omega arith))
+    ∙ ap (take (length offsets)) (front-extended (pushed offsets n) lengths)
+    ∙ take-append_seam offsets (next ∷ [])
 
-pub take-extended : (offsets : List ℤ) (lengths : List ℕ) → take (length offsets) (extended offsets lengths) ≡ offsets
-take-extended offsets lengths = ap (take (length offsets)) (extended-running offsets lengths) ∙ take-append_seam offsets (running (last_of offsets) lengths)
+-- the offsets of the first slots that were added
+pub take-extended : (n : ℕ) (offsets : List ℤ) (lengths : List ℕ) → take (length offsets + n) (extended offsets lengths) ≡ extended offsets (take n lengths)
+take-extended zero offsets lengths = let e : length offsets + 0 ≡ length offsets = omega arith in rw e (front-extended offsets lengths)
+take-extended (suc n) offsets [] = take_all (length offsets + suc n) offsets (omega arith)
+take-extended (suc n) offsets (m ∷ lengths) =
+    let count : length (pushed offsets m) ≡ length offsets + 1 = length-append offsets ((last_of offsets +ℤ pos m) ∷ []) in
+    let e : length offsets + suc n ≡ length (pushed offsets m) + n = omega arith in
+    rw e (take-extended n (pushed offsets m) lengths)
 
 -- ---- a slot more
 
@@ -140,7 +148,7 @@ pub kept_front : {X : Type 0} (f : X → ℤ) (xs : List X) (new : List ℤ) (ta
 kept_front f xs new taken e =
     ap (take (length xs)) e
     ∙ ap (λ n. take n (extended (map f xs) taken)) (sym (length-map xs f))
-    ∙ take-extended (map f xs) taken
+    ∙ front-extended (map f xs) taken
 
 -- ---- slots of no bytes
 
@@ -173,15 +181,9 @@ within_constant greatest k offsets within = record {
   within_type = rw (last_of-constant k offsets) within.within_type;
 }
 
-take_of_length_le : {X : Type 0} (n : ℕ) (xs : List X) → length xs ≤ n → take n xs ≡ xs
-take_of_length_le zero [] le = refl
-take_of_length_le zero (x ∷ xs) le = absurd (omega arith)
-take_of_length_le (suc n) [] le = refl
-take_of_length_le (suc n) (x ∷ xs) le = ap (λ ys. x ∷ ys) (take_of_length_le n xs (omega arith))
-
 pub grown_constant : {X : Type 0} (f : X → ℤ) (xs new : List X) (x : X) (k count len : ℕ) → new ≡ take count xs ++ replicate (count - len) x → len ≡ length xs → count ≡ len + k → f x ≡ last_of (map f xs) → map f new ≡ map f xs ++ replicate k (last_of (map f xs))
 grown_constant f xs new x k count len e there more is =
-    let all : take count xs ≡ xs = take_of_length_le count xs (omega arith) in
+    let all : take count xs ≡ xs = take_all count xs (omega arith) in
     let extra : count - len ≡ k = omega arith in
     ap (map f) e ∙ rw (all, extra) (map-append f xs (replicate k x)) ∙ ap (λ zs. map f xs ++ zs) (map-replicate f k x ∙ ap (replicate k) is)
 

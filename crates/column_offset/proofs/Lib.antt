@@ -4,3 +4,4 @@ pub mod GrowthLemmas
 pub mod SlotsLemmas
 pub mod EqualLemmas
 pub mod LeavesLemmas
+pub mod OperationsLemmas

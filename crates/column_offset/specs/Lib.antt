@@ -3,3 +3,4 @@ pub mod Text
 pub mod Growth
 pub mod Keys
 pub mod Leaves
+pub mod Operations

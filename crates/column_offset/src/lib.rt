@@ -13,6 +13,7 @@ mod iterator;
 mod keys;
 mod leaf;
 mod offsets;
+mod operations;
 mod text;
 
 pub use buffer::OffsetsBuffer;
@@ -22,4 +23,5 @@ pub use iterator::{Lengths, OffsetAndLengthIter};
 pub use keys::{IndexKey, check_indexes};
 pub use leaf::LeafRanges;
 pub use offsets::Offsets;
+pub use operations::{OffsetsOperation, replay};
 pub use text::{slots_decide, slots_end_to_end, try_check_utf8};
