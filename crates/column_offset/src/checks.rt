@@ -1,7 +1,7 @@
 //! Checks of raw parts.
 
 ghost use Rattle.std.specs.Prelude.{◌≡◌, ◌↔◌, ℕ, ℤ, List, None, ◌+◌, ◌<◌, ◌≤◌, pos, ◌≤ℤ◌, length, map, ⊤};
-ghost use Rattle.column_base.specs.Answers.{Gives};
+ghost use Rattle.column_base.specs.Answers.{Gives, GivesCause};
 ghost use Rattle.column_offset.specs.Offsets.{nat_of, offset_at, last_of, offsets_fault, bounds_fault, AreSoundOffsets};
 
 use column_base::{Cause, Offset, PolarsError};
@@ -10,14 +10,14 @@ use column_base::{Cause, Offset, PolarsError};
 ///
 /// One pass, with no memory. `OffsetsEmpty`, `OffsetsNegative` for the first number, then `OffsetsNotMonotone`. Arrow
 /// columnar format, "Variable-size Binary Layout".
-pub fn try_check_offsets<O: Offset>(offsets: &[O]) -> Result<(), PolarsError>
-    ensures { Gives result (offsets_fault (map O.int offsets.now)) (λ _. ⊤) }
+pub fn check_offsets<O: Offset>(offsets: &[O]) -> Result<(), Cause>
+    ensures { GivesCause result (offsets_fault (map O.int offsets.now)) (λ _. ⊤) }
 {
     let Some(first) = offsets.first() else {
-        return Err(Cause::OffsetsEmpty.into());
+        return Err(Cause::OffsetsEmpty);
     };
     if *first < O::zero() {
-        return Err(Cause::OffsetsNegative.into());
+        return Err(Cause::OffsetsNegative);
     }
     let mut last = *first;
     let mut any_falls = false;
@@ -26,9 +26,16 @@ pub fn try_check_offsets<O: Offset>(offsets: &[O]) -> Result<(), PolarsError>
         last = *offset;
     }
     if any_falls {
-        return Err(Cause::OffsetsNotMonotone.into());
+        return Err(Cause::OffsetsNotMonotone);
     }
     Ok(())
+}
+
+/// The same as [`check_offsets`], with the cause as an error.
+pub fn try_check_offsets<O: Offset>(offsets: &[O]) -> Result<(), PolarsError>
+    ensures { Gives result (offsets_fault (map O.int offsets.now)) (λ _. ⊤) }
+{
+    Ok(check_offsets(offsets)?)
 }
 
 /// Law of sound offsets: [`try_check_offsets`] finds no fault exactly where numbers are sound offsets.
@@ -39,6 +46,17 @@ pub fn no_fault_is_sound()
 /// Whether sound offsets lie within `values_len` values. Takes no memory.
 ///
 /// `OffsetsExceedValues` where the last offset is greater.
+pub fn check_offsets_bounds<O: Offset>(offsets: &[O], values_len: usize) -> Result<(), Cause>
+    requires { AreSoundOffsets (map O.int offsets.now) }
+    ensures { GivesCause result (bounds_fault (map O.int offsets.now) values_len) (λ _. ⊤) }
+{
+    if last_place(offsets) > values_len {
+        return Err(Cause::OffsetsExceedValues);
+    }
+    Ok(())
+}
+
+/// The same as [`check_offsets_bounds`], with the cause as an error.
 pub fn try_check_offsets_bounds<O: Offset>(
     offsets: &[O],
     values_len: usize,
@@ -46,10 +64,7 @@ pub fn try_check_offsets_bounds<O: Offset>(
     requires { AreSoundOffsets (map O.int offsets.now) }
     ensures { Gives result (bounds_fault (map O.int offsets.now) values_len) (λ _. ⊤) }
 {
-    if place(offsets, offsets.len() - 1) > values_len {
-        return Err(Cause::OffsetsExceedValues.into());
-    }
-    Ok(())
+    Ok(check_offsets_bounds(offsets, values_len)?)
 }
 
 /// Offset `index` of sound ones.

@@ -17,11 +17,14 @@ mod operations;
 mod text;
 
 pub use buffer::OffsetsBuffer;
-pub use checks::{no_fault_is_sound, try_check_offsets, try_check_offsets_bounds};
+pub use checks::{
+    check_offsets, check_offsets_bounds, no_fault_is_sound, try_check_offsets,
+    try_check_offsets_bounds,
+};
 pub use container::OffsetsContainer;
 pub use iterator::{Lengths, OffsetAndLengthIter};
 pub use keys::{IndexKey, check_indexes};
 pub use leaf::LeafRanges;
 pub use offsets::Offsets;
 pub use operations::{OffsetsOperation, replay};
-pub use text::{slots_decide, slots_end_to_end, try_check_utf8};
+pub use text::{check_utf8, slots_decide, slots_end_to_end, try_check_utf8};

@@ -2,11 +2,11 @@
 
 ghost use Rattle.std.specs.Prelude.{◌≡◌, ◌↔◌, ℕ, ℤ, ◌≤◌, ◌<◌, true, List, None, length, map, slice_range, ⊤};
 ghost use Rattle.std.specs.List.{concat};
-ghost use Rattle.column_base.specs.Answers.{Gives};
+ghost use Rattle.column_base.specs.Answers.{Gives, GivesCause};
 ghost use Rattle.column_offset.specs.Offsets.{nat_of, offset_at, last_of, AreSoundOffsets};
 ghost use Rattle.column_offset.specs.Text.{pieces, are_well_formed_utf8, cut_fault};
 
-use crate::checks::{place, try_check_offsets_bounds};
+use crate::checks::{check_offsets_bounds, place};
 use column_base::{Cause, Offset, PolarsError, is_utf8};
 
 /// Whether each slot of sound offsets is UTF-8 by itself.
@@ -16,19 +16,27 @@ use column_base::{Cause, Offset, PolarsError, is_utf8};
 /// `InvalidUtf8` where the bytes from the first offset up to the last are not UTF-8, `CharBoundary` where they are and
 /// some slot is not. Unicode, table 3-7.
 #[tactic(auto, using(crate::proofs::TextLemmas::texts))]
-pub fn try_check_utf8<O: Offset>(offsets: &[O], values: &[u8]) -> Result<(), PolarsError>
+pub fn check_utf8<O: Offset>(offsets: &[O], values: &[u8]) -> Result<(), Cause>
     requires { AreSoundOffsets (map O.int offsets.now) }
-    ensures { Gives result (cut_fault (map O.int offsets.now) values.now) (λ _. ⊤) }
+    ensures { GivesCause result (cut_fault (map O.int offsets.now) values.now) (λ _. ⊤) }
 {
-    try_check_offsets_bounds(offsets, values.len())?;
+    check_offsets_bounds(offsets, values.len())?;
     if slots_are_utf8(offsets, values) {
         return Ok(());
     }
     if is_utf8(covered_bytes(offsets, values)) {
-        Err(Cause::CharBoundary.into())
+        Err(Cause::CharBoundary)
     } else {
-        Err(Cause::InvalidUtf8.into())
+        Err(Cause::InvalidUtf8)
     }
+}
+
+/// The same as [`check_utf8`], with the cause as an error.
+pub fn try_check_utf8<O: Offset>(offsets: &[O], values: &[u8]) -> Result<(), PolarsError>
+    requires { AreSoundOffsets (map O.int offsets.now) }
+    ensures { Gives result (cut_fault (map O.int offsets.now) values.now) (λ _. ⊤) }
+{
+    Ok(check_utf8(offsets, values)?)
 }
 
 /// Law of texts in slots: of sound offsets within the value bytes, [`try_check_utf8`] finds no fault exactly where each

@@ -1,9 +1,0 @@
-use Rattle.std.proofs.lemmas.Result.{err_from_is_err_and}
-use Rattle.column_base.proofs.AnswersLemmas.{gives_err}
-use Rattle.column_offset.proofs.TextLemmas.{text_bounds}
-use Rattle.column_offset.proofs.text.try_check_utf8.Goals as goal
-
-pub returns-in_err-try_check_offsets_bounds : goal.returns-in_err-try_check_offsets_bounds
-returns-in_err-try_check_offsets_bounds g c =
-    let p = err_from_is_err_and c.from_residual.result c.from_residual.ensures.1 in
-    rw (p.1, p.2) (gives_err _ _ _ _ _ c.in_err-try_check_offsets_bounds.ensures (λ cause e. text_bounds _ _ cause e))
