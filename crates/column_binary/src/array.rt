@@ -1,16 +1,17 @@
 //! The array: its constructors, its readers, and its cheap changes.
 
-ghost use Rattle.std.specs.Prelude.{◌≡◌, ◌+◌, ◌-◌, ◌<◌, ◌≤◌, ◌==◌, not, pos, [], ◌∷◌, true, false, length as list_length, replicate, count_by, option_map, IfSome, None, Some};
+ghost use Rattle.std.specs.Prelude.{◌≡◌, ◌+◌, ◌-◌, ◌<◌, ◌≤◌, ◌==◌, not, pos, [], ◌∷◌, true, false, length as list_length, replicate, count_by, option_map, IfSome, None, Some, map, ⊤};
 ghost use Rattle.std.specs.Option.{option_copied};
-ghost use Rattle.column_base.specs.Answers.{Gives, Answers, ◌or_else◌};
+ghost use Rattle.column_base.specs.Answers.{Gives, GivesCause, Answers, ◌or_else◌};
 ghost use Rattle.column_base.specs.DataTypes.{physical_type};
 ghost use Rattle.column_base.specs.Lists.{sublist};
 ghost use Rattle.column_base.specs.Slots.{slot_at, row_of};
+ghost use Rattle.column_offset.specs.Offsets.{AreSoundOffsets, offsets_fault};
 ghost use Rattle.column_binary.specs.Types.{binary_type, is_binary, type_fault};
 ghost use Rattle.column_binary.specs.Slots.{offset_lists, offset_slots, slot_count, array_fault, sliced_lists, AreSoundLists};
 
 use column_base::{ArrowDataType, Cause, Offset, PhysicalType, PolarsError, Splitable};
-use column_offset::{Offsets, OffsetsBuffer, try_check_offsets_bounds};
+use column_offset::{Offsets, OffsetsBuffer, check_offsets, check_offsets_bounds};
 use column_storage::{Bitmap, Buffer, null_count, slice_validity};
 use std::alloc::Global;
 use std::marker::Model;
@@ -53,15 +54,33 @@ impl<O: Offset> BinaryArray<O> {
     ) -> Result<Self, PolarsError>
         ensures { let lists = offset_lists offsets values validity in Gives result (array_fault lists or_else type_fault O.IS_LARGE dtype) (λ a. a ≡ lists) }
     {
-        try_check_offsets_bounds(offsets.as_slice(), values.len())?;
-        if let Some(bits) = &validity {
-            if bits.len() != offsets.len_proxy() {
-                return Err(Cause::ValidityLength.into());
-            }
-        }
+        check_lists(&offsets, &values, validity.as_ref())?;
         if !is_binary(dtype, O::IS_LARGE) {
             return Err(Cause::WrongDataType.into());
         }
+        Ok(BinaryArray {
+            offsets,
+            values,
+            validity,
+        })
+    }
+
+    /// The column of these raw lists, whose numbers are looked at too. One pass, with no memory.
+    ///
+    /// The first that stands of `OffsetsEmpty`, `OffsetsNegative`, `OffsetsNotMonotone`, `OffsetsExceedValues` where
+    /// the last offset is greater than the number of value bytes, and `ValidityLength` where a validity is given whose
+    /// length is not the number of slots.
+    #[tactic(auto, using(column_offset::proofs::OffsetsLemmas::sound_where_no_fault))]
+    pub fn try_from_parts(
+        offsets: Buffer<O>,
+        values: Buffer<u8>,
+        validity: Option<Bitmap>,
+    ) -> Result<Self, Cause>
+        ensures { let lists = offset_lists (map O.int offsets) values validity in GivesCause result (offsets_fault lists.offsets or_else array_fault lists) (λ a. a ≡ lists) }
+    {
+        check_offsets(offsets.as_slice())?;
+        let offsets = OffsetsBuffer::new_unchecked(offsets);
+        check_lists(&offsets, &values, validity.as_ref())?;
         Ok(BinaryArray {
             offsets,
             values,
@@ -388,6 +407,24 @@ impl<O: Offset> BinaryArray<O> {
     {
         self.validity.take()
     }
+}
+
+/// Whether lists with sound offsets are sound: the first that stands of `OffsetsExceedValues` and `ValidityLength`.
+#[tactic(auto, using(crate::proofs::SlotsLemmas::fine))]
+fn check_lists<O: Offset>(
+    offsets: &OffsetsBuffer<O>,
+    values: &Buffer<u8>,
+    validity: Option<&Bitmap>,
+) -> Result<(), Cause>
+    ensures { let lists = offset_lists offsets.now values.now (option_copied validity.entry) in GivesCause result (array_fault lists) (λ _. AreSoundLists lists) }
+{
+    check_offsets_bounds(offsets.as_slice(), values.len())?;
+    if let Some(bits) = validity {
+        if bits.len() != offsets.len_proxy() {
+            return Err(Cause::ValidityLength);
+        }
+    }
+    Ok(())
 }
 
 /// Whether a data type is laid out as byte strings with offsets of 32 bits, or of 64 where `is_large`.
