@@ -11,7 +11,7 @@ use Rattle.column_base.specs.Kinds.{Slot}
 use Rattle.column_base.specs.Slots.{slot_at, values_of}
 use Rattle.column_base.specs.Utf8.{is_well_formed_utf8, IsWellFormedUtf8}
 use Rattle.column_base.proofs.ListsLemmas.{map-sublist}
-use Rattle.column_offset.specs.Offsets.{nat_of, last_of, bounds_fault}
+use Rattle.column_offset.specs.Offsets.{offsets_fault, nat_of, last_of, bounds_fault}
 use Rattle.column_offset.specs.Text.{pieces, are_well_formed_utf8, texts_fault, cut_fault}
 use Rattle.column_offset.proofs.TextLemmas.{all_where_no_fault}
 use Rattle.column_binary.specs.Types.{binary_type, type_fault}
@@ -116,6 +116,15 @@ array_refused lists large type cause none refused =
     let flags : flags_fault (slot_count lists) lists.flags ≡ Some cause = sym (array_fault_is lists large none) ∙ refused in
     ap (λ (first : Option Cause). first or_else flags_fault (slot_count lists) lists.flags or_else type) none
     ∙ ap (λ (second : Option Cause). second or_else type) flags
+
+pub parts_refused : (lists : OffsetLists) (cause : Cause) → offsets_fault lists.offsets ≡ None → cut_fault lists.offsets lists.values ≡ None → (offsets_fault lists.offsets or_else array_fault lists) ≡ Some cause → (offsets_fault lists.offsets or_else text_array_fault lists) ≡ Some cause
+parts_refused lists cause offsets none refused =
+    let flags = flags_fault (slot_count lists) lists.flags in
+    ap (λ (first : Option Cause). first or_else text_array_fault lists) offsets
+    ∙ ap (λ (first : Option Cause). first or_else flags) none
+    ∙ sym (ap (λ (first : Option Cause). first or_else flags) (bounds_where_fine lists none))
+    ∙ sym (ap (λ (first : Option Cause). first or_else array_fault lists) offsets)
+    ∙ refused
 
 pub array_fine : (lists : OffsetLists) (large : Bool) (type : Option Cause) → (text_array_fault lists or_else type) ≡ None → (array_fault lists or_else type_fault large (binary_type large)) ≡ None
 array_fine lists large type none =

@@ -1,17 +1,18 @@
 //! The array: its constructors, its readers, and its cheap changes.
 
-ghost use Rattle.std.specs.Prelude.{◌≡◌, ◌+◌, ◌-◌, ◌<◌, ◌≤◌, ◌==◌, not, pos, [], ◌∷◌, true, false, length as list_length, replicate, count_by, option_map, IfSome, None, Some};
-ghost use Rattle.column_base.specs.Answers.{Gives, Answers, ◌or_else◌};
+ghost use Rattle.std.specs.Prelude.{◌≡◌, ◌+◌, ◌-◌, ◌<◌, ◌≤◌, ◌==◌, not, pos, [], ◌∷◌, true, false, length as list_length, replicate, count_by, option_map, IfSome, None, Some, map};
+ghost use Rattle.column_base.specs.Answers.{Gives, GivesCause, Answers, ◌or_else◌};
 ghost use Rattle.column_base.specs.DataTypes.{physical_type};
 ghost use Rattle.column_base.specs.Lists.{sublist};
 ghost use Rattle.column_base.specs.Slots.{slot_at, row_of};
+ghost use Rattle.column_offset.specs.Offsets.{offsets_fault};
 ghost use Rattle.column_binary.specs.Slots.{offset_lists, offset_slots, slot_count, sliced_lists};
 ghost use Rattle.column_utf8.specs.Types.{text_type, is_text, type_fault};
 ghost use Rattle.column_utf8.specs.Texts.{text_array_fault, AreSoundTexts};
 
 use column_base::{ArrowDataType, Cause, Offset, PhysicalType, PolarsError, Splitable, str_of};
 use column_binary::BinaryArray;
-use column_offset::{OffsetsBuffer, try_check_utf8};
+use column_offset::{OffsetsBuffer, check_offsets, check_utf8, try_check_utf8};
 use column_storage::{Bitmap, Buffer};
 use std::alloc::Global;
 use std::marker::Model;
@@ -67,6 +68,27 @@ impl<O: Offset> Utf8Array<O> {
         if !is_text(dtype, O::IS_LARGE) {
             return Err(Cause::WrongDataType.into());
         }
+        Ok(Utf8Array::of(array))
+    }
+
+    /// The column of these raw lists, whose numbers are looked at too. Takes no memory.
+    ///
+    /// The first that stands of `OffsetsEmpty`, `OffsetsNegative`, `OffsetsNotMonotone`, `OffsetsExceedValues` where
+    /// the last offset is greater than the number of value bytes, `InvalidUtf8` where the bytes of all slots are not
+    /// UTF-8 end to end, `CharBoundary` where some slot by itself is not, and `ValidityLength` where a validity is
+    /// given whose length is not the number of slots. Null slots are looked at too.
+    #[tactic(auto, using(column_offset::proofs::OffsetsLemmas::sound_where_no_fault))]
+    pub fn try_from_parts(
+        offsets: Buffer<O>,
+        values: Buffer<u8>,
+        validity: Option<Bitmap>,
+    ) -> Result<Self, Cause>
+        ensures { let lists = offset_lists (map O.int offsets) values validity in GivesCause result (offsets_fault lists.offsets or_else text_array_fault lists) (λ a. a ≡ lists) }
+    {
+        check_offsets(offsets.as_slice())?;
+        check_utf8(offsets.as_slice(), values.as_slice())?;
+        let array = BinaryArray::try_from_parts(offsets, values, validity)?;
+        let _slots = array.len();
         Ok(Utf8Array::of(array))
     }
 
