@@ -1,12 +1,12 @@
 //! The array: its constructors, its readers, and its cheap changes.
 
-ghost use Rattle.std.specs.Prelude.{◌≡◌, ◌+◌, ◌-◌, ◌<◌, ◌≤◌, ◌==◌, not, pos, [], ◌∷◌, true, false, length as list_length, replicate, count_by, option_map, IfSome, None, Some, map, ⊤};
+ghost use Rattle.std.specs.Prelude.{◌≡◌, ◌+◌, ◌-◌, ◌<◌, ◌≤◌, ◌≤ℤ◌, ◌==◌, not, pos, [], ◌∷◌, true, false, length as list_length, replicate, count_by, option_map, IfSome, None, Some, map, ⊤};
 ghost use Rattle.std.specs.Option.{option_copied};
 ghost use Rattle.column_base.specs.Answers.{Gives, GivesCause, Answers, ◌or_else◌};
 ghost use Rattle.column_base.specs.DataTypes.{physical_type};
 ghost use Rattle.column_base.specs.Lists.{sublist};
 ghost use Rattle.column_base.specs.Slots.{slot_at, row_of};
-ghost use Rattle.column_offset.specs.Offsets.{AreSoundOffsets, offsets_fault};
+ghost use Rattle.column_offset.specs.Offsets.{AreSoundOffsets, last_of, offsets_fault};
 ghost use Rattle.column_binary.specs.Types.{binary_type, is_binary, type_fault};
 ghost use Rattle.column_binary.specs.Slots.{offset_lists, offset_slots, slot_count, array_fault, sliced_lists, AreSoundLists};
 
@@ -115,7 +115,7 @@ impl<O: Offset> BinaryArray<O> {
         requires { array_fault (offset_lists offsets values validity) or_else type_fault O.IS_LARGE _dtype ≡ None }
         ensures { result ≡ offset_lists offsets values validity }
     {
-        let _count = offsets.len();
+        offsets.known();
         BinaryArray {
             offsets,
             values,
@@ -182,6 +182,14 @@ impl<O: Offset> BinaryArray<O> {
 // ---- readers
 
 impl<O: Offset> BinaryArray<O> {
+    /// Tells proofs that the lists are sound, and that the last offset is a value of its type.
+    pub fn known(&self)
+        ensures sound { AreSoundLists self.now }
+        ensures within_type { last_of self.now.offsets ≤ℤ pos O.GREATEST }
+    {
+        self.offsets.known();
+    }
+
     /// The number of slots.
     #[tactic(auto, using(crate::proofs::SlotsLemmas::counts))]
     pub fn len(&self) -> usize
@@ -344,7 +352,7 @@ impl<O: Offset> BinaryArray<O> {
         requires { offset + length ≤ slot_count self.old }
         ensures { self.new ≡ sliced_lists self.old offset length }
     {
-        let _count = self.offsets.len();
+        self.offsets.known();
         self.offsets.slice(offset, length + 1);
         self.validity = slice_validity(self.validity.take(), offset, length);
     }
