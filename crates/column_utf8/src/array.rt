@@ -1,11 +1,11 @@
 //! The array: its constructors, its readers, and its cheap changes.
 
-ghost use Rattle.std.specs.Prelude.{◌≡◌, ◌+◌, ◌-◌, ◌<◌, ◌≤◌, ◌==◌, not, pos, [], ◌∷◌, true, false, length as list_length, replicate, count_by, option_map, IfSome, None, Some, map};
+ghost use Rattle.std.specs.Prelude.{◌≡◌, ◌+◌, ◌-◌, ◌<◌, ◌≤◌, ◌≤ℤ◌, ◌==◌, not, pos, [], ◌∷◌, true, false, length as list_length, replicate, count_by, option_map, IfSome, None, Some, map};
 ghost use Rattle.column_base.specs.Answers.{Gives, GivesCause, Answers, ◌or_else◌};
 ghost use Rattle.column_base.specs.DataTypes.{physical_type};
 ghost use Rattle.column_base.specs.Lists.{sublist};
 ghost use Rattle.column_base.specs.Slots.{slot_at, row_of};
-ghost use Rattle.column_offset.specs.Offsets.{offsets_fault};
+ghost use Rattle.column_offset.specs.Offsets.{last_of, offsets_fault};
 ghost use Rattle.column_binary.specs.Slots.{offset_lists, offset_slots, slot_count, sliced_lists};
 ghost use Rattle.column_utf8.specs.Types.{text_type, is_text, type_fault};
 ghost use Rattle.column_utf8.specs.Texts.{text_array_fault, AreSoundTexts};
@@ -185,6 +185,14 @@ impl<O: Offset> Utf8Array<O> {
 // ---- readers
 
 impl<O: Offset> Utf8Array<O> {
+    /// Tells proofs that the lists are sound, that each slot is UTF-8, and that the last offset is a value of its type.
+    pub fn known(&self)
+        ensures sound { AreSoundTexts self.now }
+        ensures within_type { last_of self.now.offsets ≤ℤ pos O.GREATEST }
+    {
+        self.array.known();
+    }
+
     /// The number of slots.
     pub fn len(&self) -> usize
         ensures slots { result ≡ list_length (offset_slots self.now) }
