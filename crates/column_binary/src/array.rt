@@ -352,6 +352,7 @@ impl<O: Offset> BinaryArray<O> {
         requires { offset + length ≤ slot_count self.old }
         ensures { self.new ≡ sliced_lists self.old offset length }
     {
+        let _count = self.offsets.len();
         self.offsets.known();
         self.offsets.slice(offset, length + 1);
         self.validity = slice_validity(self.validity.take(), offset, length);
