@@ -35,7 +35,9 @@ impl<'a> Clone for BitmapIter<'a> {
 impl<'a> Copy for BitmapIter<'a> {}
 
 impl<'a> Iterator for BitmapIter<'a> {
-    ghost use Rattle.std.specs.Iterator.{YieldsFirst, item_count};
+    ghost use Rattle.std.specs.Prelude.{◌≡◌, length, Some, IfSome};
+    ghost use Rattle.std.specs.Iterator.{YieldsFirst, item_count, UpTo};
+    ghost use Rattle.std.specs.Iterator.SizeHint.{IsWithinCount};
     ghost use Rattle.column_storage.specs.Iterators.{bits_left};
 
     type Item = bool;
@@ -50,7 +52,11 @@ impl<'a> Iterator for BitmapIter<'a> {
         Some(*first)
     }
 
-    fn size_hint(&self) -> (usize, Option<usize>) {
+    fn size_hint(&self) -> (usize, Option<usize>)
+        ensures exact { let n = length (bits_left self.now) in result ≡ (n, Some n) }
+        ensures lower { IsWithinCount result.0 (item_count bits_left self.now) }
+        ensures upper { IfSome result.1 (UpTo (item_count bits_left self.now)) }
+    {
         (self.bits.len(), Some(self.bits.len()))
     }
 }

@@ -25,7 +25,7 @@ pub use laws::{
     slot_is_flag_and_value, slot_of_slice, slots_are_values, slots_of_slice, slots_of_split,
     slots_of_two_slices,
 };
-pub use listed::{Flags, FlagsBack, Listed, ListedBack};
+pub use listed::{Flags, FlagsBack, Listed, ListedBack, Rest};
 pub use mutable_bitmap::MutableBitmap;
 pub use non_null_values_iter::NonNullValuesIter;
 pub use true_idx_iter::TrueIdxIter;

@@ -22,12 +22,13 @@ ghost use Rattle.column_storage.specs.Bits.{flags_of, set_places};
 #[tactic(auto, using(crate::proofs::PlacesLemmas::places))]
 impl<'a> TrueIdxIter<'a> {
     ghost use Rattle.std.specs.Iterator.{YieldsFirst};
-    ghost use Rattle.column_storage.specs.Iterators.{places_left};
+    ghost use Rattle.column_storage.specs.Iterators.{places_left, slots_left};
 
     /// The places below `len` whose bits are set, and all of them where no validity is given.
     pub fn new(len: usize, validity: Option<&'a Bitmap>) -> Self
         requires { IfSome validity (λ bits. length bits.now ≡ len) }
         ensures places { places_left result ≡ set_places 0 (flags_of len (option_copied validity.entry)) }
+        ensures slots { slots_left result ≡ len }
         ensures same_len { result.len ≡ len }
     {
         TrueIdxIter {
@@ -79,8 +80,9 @@ impl<'a> Copy for TrueIdxIter<'a> {}
 
 #[tactic(auto, using(crate::proofs::PlacesLemmas::places))]
 impl<'a> Iterator for TrueIdxIter<'a> {
-    ghost use Rattle.std.specs.Iterator.{YieldsFirst, item_count};
-    ghost use Rattle.column_storage.specs.Iterators.{places_left};
+    ghost use Rattle.std.specs.Iterator.{YieldsFirst, item_count, UpTo};
+    ghost use Rattle.std.specs.Iterator.SizeHint.{IsWithinCount};
+    ghost use Rattle.column_storage.specs.Iterators.{places_left, slots_left};
 
     type Item = usize;
 
@@ -92,7 +94,11 @@ impl<'a> Iterator for TrueIdxIter<'a> {
         self.next_place()
     }
 
-    fn size_hint(&self) -> (usize, Option<usize>) {
+    fn size_hint(&self) -> (usize, Option<usize>)
+        ensures most { result.1 ≡ Some (slots_left self.now) }
+        ensures lower { IsWithinCount result.0 (item_count places_left self.now) }
+        ensures upper { IfSome result.1 (UpTo (item_count places_left self.now)) }
+    {
         let left = self.len - self.index;
         match self.validity {
             Some(_) => (0, Some(left)),

@@ -1,7 +1,6 @@
 //! The values of an array, one by one.
 
 use crate::accessor::{ArrayAccessor, Values};
-use crate::listed::Listed;
 use std::alloc::AllocError;
 use std::iter::FusedIterator;
 
@@ -14,13 +13,16 @@ pub struct ArrayValuesIter<'a, A: Values> {
     ghost in_range: { end ≤ length (A.items array.now) },
 }
 
-ghost use Rattle.std.specs.Prelude.{◌≡◌, ◌+◌, ◌-◌, ◌≤◌, length, drop, take, slice_range, slice_get, Some, MatchOption, ⊤};
-ghost use Rattle.std.specs.Iterator.{YieldsFirstBy, YieldsLastBy, item_count};
+ghost use Rattle.std.specs.Prelude.{◌≡◌, ◌+◌, ◌-◌, ◌≤◌, length, drop, take, slice_get, Some, MatchOption, IfSome, ⊤};
+ghost use Rattle.std.specs.Iterator.{YieldsFirstBy, YieldsLastBy, item_count, UpTo};
+ghost use Rattle.std.specs.Iterator.SizeHint.{IsWithinCount};
 
 impl<'a, A: ArrayAccessor<'a>> ArrayValuesIter<'a, A> {
+    ghost use Rattle.column_storage.specs.Iterators.{values_left};
+
     /// All values of an array.
     pub fn new(array: &'a A) -> Self
-        ensures { ⟦<ArrayValuesIter<'a, A> as Listed>⟧.rest result ≡ A.items array.now }
+        ensures { values_left result ≡ A.items array.now }
     {
         let end = array.len();
         ArrayValuesIter {
@@ -33,8 +35,8 @@ impl<'a, A: ArrayAccessor<'a>> ArrayValuesIter<'a, A> {
     /// Passes over `n` values and gives the next. Past the end `None`, and then nothing is left.
     #[tactic(auto, using(crate::proofs::RangesLemmas::nths))]
     pub fn nth(&mut self, n: usize) -> Option<A::Item>
-        ensures item { let left = ⟦<ArrayValuesIter<'a, A> as Listed>⟧.rest self.old in MatchOption result (length left ≤ n) (λ x. slice_get left n ≡ Some (A.shown x)) }
-        ensures rest { let left = ⟦<ArrayValuesIter<'a, A> as Listed>⟧.rest self.old in ⟦<ArrayValuesIter<'a, A> as Listed>⟧.rest self.new ≡ drop (n + 1) left }
+        ensures item { let left = values_left self.old in MatchOption result (length left ≤ n) (λ x. slice_get left n ≡ Some (A.shown x)) }
+        ensures rest { let left = values_left self.old in values_left self.new ≡ drop (n + 1) left }
     {
         if self.end - self.index <= n {
             self.index = self.end;
@@ -48,8 +50,8 @@ impl<'a, A: ArrayAccessor<'a>> ArrayValuesIter<'a, A> {
     /// Passes over `n` values from the back and gives the next. Past the end `None`, and then nothing is left.
     #[tactic(auto, using(crate::proofs::RangesLemmas::nths))]
     pub fn nth_back(&mut self, n: usize) -> Option<A::Item>
-        ensures item { let left = ⟦<ArrayValuesIter<'a, A> as Listed>⟧.rest self.old in MatchOption result (length left ≤ n) (λ x. slice_get left (length left - (n + 1)) ≡ Some (A.shown x)) }
-        ensures rest { let left = ⟦<ArrayValuesIter<'a, A> as Listed>⟧.rest self.old in ⟦<ArrayValuesIter<'a, A> as Listed>⟧.rest self.new ≡ take (length left - (n + 1)) left }
+        ensures item { let left = values_left self.old in MatchOption result (length left ≤ n) (λ x. slice_get left (length left - (n + 1)) ≡ Some (A.shown x)) }
+        ensures rest { let left = values_left self.old in values_left self.new ≡ take (length left - (n + 1)) left }
     {
         if self.end - self.index <= n {
             self.end = self.index;
@@ -75,11 +77,13 @@ impl<'a, A: Values> Copy for ArrayValuesIter<'a, A> {}
 
 #[tactic(auto, using(crate::proofs::RangesLemmas::ranges))]
 impl<'a, A: ArrayAccessor<'a>> Iterator for ArrayValuesIter<'a, A> {
+    ghost use Rattle.column_storage.specs.Iterators.{values_left};
+
     type Item = A::Item;
 
-    ghost next_gives = { YieldsFirstBy A.shown (λ s. slice_range (A.items s.array.now) s.index s.end) };
+    ghost next_gives = { YieldsFirstBy A.shown values_left };
 
-    ghost remaining = { item_count (λ s. slice_range (A.items s.array.now) s.index s.end) };
+    ghost remaining = { item_count values_left };
 
     fn next(&mut self) -> Option<A::Item> {
         if self.index == self.end {
@@ -90,7 +94,11 @@ impl<'a, A: ArrayAccessor<'a>> Iterator for ArrayValuesIter<'a, A> {
         Some(self.array.value_unchecked(index))
     }
 
-    fn size_hint(&self) -> (usize, Option<usize>) {
+    fn size_hint(&self) -> (usize, Option<usize>)
+        ensures exact { let n = length (values_left self.now) in result ≡ (n, Some n) }
+        ensures lower { IsWithinCount result.0 (item_count values_left self.now) }
+        ensures upper { IfSome result.1 (UpTo (item_count values_left self.now)) }
+    {
         let left = self.end - self.index;
         (left, Some(left))
     }
@@ -98,7 +106,9 @@ impl<'a, A: ArrayAccessor<'a>> Iterator for ArrayValuesIter<'a, A> {
 
 #[tactic(auto, using(crate::proofs::RangesLemmas::ranges))]
 impl<'a, A: ArrayAccessor<'a>> DoubleEndedIterator for ArrayValuesIter<'a, A> {
-    ghost next_back_gives = { YieldsLastBy A.shown (λ s. slice_range (A.items s.array.now) s.index s.end) };
+    ghost use Rattle.column_storage.specs.Iterators.{values_left};
+
+    ghost next_back_gives = { YieldsLastBy A.shown values_left };
 
     fn next_back(&mut self) -> Option<A::Item> {
         if self.index == self.end {
