@@ -1,5 +1,6 @@
 pub mod CountsLemmas
 pub mod FlagsLemmas
+pub mod OperationsLemmas
 pub mod OptionalLemmas
 pub mod PartsLemmas
 pub mod PlacesLemmas

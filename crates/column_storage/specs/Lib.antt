@@ -1,5 +1,6 @@
 pub mod Bits
 pub mod Iterators
+pub mod Operations
 pub mod Slots
 pub mod Validity
 pub mod Zipped

@@ -125,6 +125,12 @@ impl Bitmap {
         self.unset
     }
 
+    /// Tells proofs that no more bits are not set than there are.
+    #[tactic(auto, using(crate::proofs::CountsLemmas::counts))]
+    pub fn known(&self)
+        ensures { count_by not self.now ≤ length self.now }
+    {}
+
     /// The bits one by one, from both ends.
     pub fn iter(&self) -> BitmapIter<'_>
         ensures { bits_left result ≡ self.now }

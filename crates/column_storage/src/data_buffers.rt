@@ -54,10 +54,16 @@ impl DataBuffers {
 
     /// The number of buffers.
     pub fn len(&self) -> usize
-        ensures count { result ≡ length self.now }
-        ensures bound { length self.now ≤ MAX_BUFFERS }
+        ensures { result ≡ length self.now }
     {
         self.buffers.len()
+    }
+
+    /// Tells proofs that there are at most [`MAX_BUFFERS`].
+    pub fn known(&self)
+        ensures { length self.now ≤ MAX_BUFFERS }
+    {
+        let _ = &self.buffers;
     }
 
     /// Whether there is no buffer.
@@ -75,8 +81,8 @@ impl DataBuffers {
         &self.buffers[i]
     }
 
-    #[tactic(auto, using(crate::proofs::PartsLemmas::sums))]
     /// The number of bytes of all buffers together, in time linear in the number of buffers.
+    #[tactic(auto, using(crate::proofs::PartsLemmas::sums))]
     pub fn total_len(&self) -> u128
         ensures { result ≡ sum_by length self.now }
     {

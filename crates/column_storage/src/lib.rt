@@ -10,6 +10,7 @@ mod laws;
 mod listed;
 mod mutable_bitmap;
 mod non_null_values_iter;
+mod operations;
 mod true_idx_iter;
 mod validity;
 mod values_iter;
@@ -28,6 +29,7 @@ pub use laws::{
 pub use listed::{Flags, FlagsBack, Listed, ListedBack, Rest};
 pub use mutable_bitmap::MutableBitmap;
 pub use non_null_values_iter::NonNullValuesIter;
+pub use operations::BitOperation;
 pub use true_idx_iter::TrueIdxIter;
 pub use validity::{check_validity, is_valid_at, null_count, share_validity, slice_validity};
 pub use values_iter::ArrayValuesIter;

@@ -13,7 +13,7 @@ use std::marker::Model;
 
 /// A list of truth values that grows, semantically a `Vec<bool>`.
 ///
-/// It keeps its allocator. A refused call leaves the list as it was.
+/// It keeps its allocator. A refused call leaves the list as it was, and at least the room that there was.
 #[derive(Drop)]
 pub struct MutableBitmap {
     values: Vec<bool>,
@@ -72,6 +72,7 @@ impl MutableBitmap {
     pub fn reserve(&mut self, additional: usize) -> Result<(), PolarsError>
         ensures answer { Answers result None (λ _. (self.new.bits ≡ self.old.bits) × (additional ≤ self.new.spare)) }
         ensures spare_serves { additional ≤ self.old.spare → IsOk result }
+        ensures spare_kept { self.old.spare ≤ self.new.spare }
         ensures unchanged { OnErr result (self.new ≡ self.old) }
     {
         self.values.reserve(additional)?;
@@ -86,6 +87,7 @@ impl MutableBitmap {
         ensures spare_serves { 0 < self.old.spare → IsOk result }
         ensures spare_left { OnOk result (self.old.spare ≤ self.new.spare + 1) }
         ensures unchanged { OnErr result (self.new.bits ≡ self.old.bits) }
+        ensures spare_kept { OnErr result (self.old.spare ≤ self.new.spare) }
     {
         self.values.push(value)?;
         Ok(())
@@ -106,9 +108,9 @@ impl MutableBitmap {
         ensures answer { Answers result None (λ _. self.new.bits ≡ self.old.bits ++ replicate additional value) }
         ensures spare_serves { additional ≤ self.old.spare → IsOk result }
         ensures spare_left { OnOk result (self.old.spare ≤ self.new.spare + additional) }
-        ensures unchanged { OnErr result (self.new.bits ≡ self.old.bits) }
+        ensures unchanged { OnErr result (self.new ≡ self.old) }
     {
-        self.values.reserve(additional)?;
+        self.reserve(additional)?;
         let len = self.values.len() + additional;
         self.values.resize(len, value)?;
         Ok(())
