@@ -1,69 +1,108 @@
--- Columns that are well formed, and the flags of their parts.
-use Rattle.std.proofs.Common.{◌≡◌, ℕ, ◌+◌, ◌-◌, ◌≤◌, Bool, true, false, List, length, take, replicate, Option, Some, None, refl, sym, ◌∙◌, ap, arith}
+-- Columns that are well formed, and their parts, by layout.
+use Rattle.std.proofs.Common.{◌≡◌, ℕ, ◌+◌, ◌≤◌, ℤ, pos, ◌≤ℤ◌, Bool, true, false, List, length, take, None, Some, refl, sym, ◌∙◌, ap, arith}
 use Rattle.std.proofs.Math.Seq.{take-length}
-use Rattle.std.proofs.lemmas.List.{take-replicate, drop-replicate}
-use Rattle.column_base.specs.declared.errors.Cause.{Cause}
-use Rattle.column_base.specs.Answers.{◌or_else◌}
-use Rattle.column_base.specs.Kinds.{ColumnKind}
+use Rattle.column_base.specs.Integers.{greatest_offset}
 use Rattle.column_base.specs.Lists.{sublist}
+use Rattle.column_base.proofs.AnswersLemmas.{first_none, none_after}
+use Rattle.column_base.proofs.ListsLemmas.{length-sublist}
 use Rattle.column_storage.specs.Bits.{flags_of}
-use Rattle.column_binary.specs.Types as binary
-use Rattle.column_binary.specs.Slots.{OffsetLists, AreSoundLists}
-use Rattle.column_binary.proofs.SlotsLemmas.{same_slots}
-use Rattle.column_utf8.specs.Types as text
-use Rattle.column_utf8.specs.Texts.{AreSoundTexts}
-use Rattle.column_relayout.specs.Kinds.{is_text}
-use Rattle.column_relayout.specs.Columns.{RawLists, raw_lists, slots_of, IsWellFormed, AreAlike}
-use Rattle.column_relayout.specs.Plans.{part_flags}
+use Rattle.column_offset.specs.Offsets.{last_of, offsets_fault}
+use Rattle.column_offset.proofs.OffsetsLemmas.{sound_where_no_fault as sound_offsets}
+use Rattle.column_binary.specs.Types.{binary_type, type_fault}
+use Rattle.column_binary.specs.Slots.{OffsetLists, offset_lists, slot_count, offset_slots, sliced_lists, array_fault, AreSoundLists}
+use Rattle.column_binary.proofs.SlotsLemmas.{sound_where_fine, length-offset_slots, offsets_are, flags_are, flags-sliced, slices_are_one}
+use Rattle.column_utf8.specs.Texts.{text_array_fault, AreSoundTexts}
+use Rattle.column_utf8.proofs.TextsLemmas.{array_fine}
+use Rattle.column_relayout.specs.Kinds.{is_text, is_binary, text_kind, binary_kind, offset_kind}
+use Rattle.column_relayout.specs.Columns.{RawLists, offset_column, column_kind, slots_of, count_of, parts_fault, AreSound, IsWellFormed, part_of, retyped}
+use Rattle.column_relayout.specs.Cuts.{as_read}
+
+-- ---- kinds
+
+pub text_is : (large text : Bool) → is_text (offset_kind large text) ≡ text
+text_is false false = refl
+text_is false true = refl
+text_is true false = refl
+text_is true true = refl
+
+pub binary_is : (large : Bool) → is_binary (offset_kind large false) ≡ true
+binary_is false = refl
+binary_is true = refl
+
+pub to_text_kind : (large : Bool) → text_kind (offset_kind large false) ≡ offset_kind large true
+to_text_kind false = refl
+to_text_kind true = refl
+
+pub to_binary_kind : (large : Bool) → binary_kind (offset_kind large true) ≡ offset_kind large false
+to_binary_kind false = refl
+to_binary_kind true = refl
+
+pub kind-part : (column : RawLists) (from n : ℕ) → column_kind (part_of column from n) ≡ column_kind column
+kind-part (offset_column large text lists) from n = refl
 
 -- ---- well-formed columns
 
-pub bytes_well_formed : (kind : ColumnKind) (lists : OffsetLists) → is_text kind ≡ false → AreSoundLists lists → IsWellFormed (raw_lists kind lists)
-bytes_well_formed kind lists bytes sound = record {
+pub bytes_well_formed : (large : Bool) (lists : OffsetLists) → AreSoundLists lists → last_of lists.offsets ≤ℤ pos (greatest_offset large) → IsWellFormed (offset_column large false lists)
+bytes_well_formed large lists sound within = record {
   sound = sound;
-  texts = λ (text : is_text kind ≡ true). absurd (cc);
+  within_type = within;
+  texts = λ (text : is_text (offset_kind large false) ≡ true). let bytes = text_is large false in absurd (cc);
 }
 
-pub texts_well_formed : (kind : ColumnKind) (lists : OffsetLists) → AreSoundTexts lists → IsWellFormed (raw_lists kind lists)
-texts_well_formed kind lists sound = record { sound = sound.sound; texts = λ (text : is_text kind ≡ true). sound.texts }
+pub texts_well_formed : (large : Bool) (lists : OffsetLists) → AreSoundTexts lists → last_of lists.offsets ≤ℤ pos (greatest_offset large) → IsWellFormed (offset_column large true lists)
+texts_well_formed large lists sound within = record {
+  sound = sound.sound;
+  within_type = within;
+  texts = λ (text : is_text (offset_kind large true) ≡ true). sound.texts;
+}
 
--- ---- an array's own data type
+pub sound_where_no_fault : (column : RawLists) → parts_fault column ≡ None → AreSound column
+sound_where_no_fault (offset_column large false lists) none =
+    let both = first_none (offsets_fault lists.offsets) (array_fault lists) none in
+    sound_where_fine lists None (sound_offsets lists.offsets both.0) (none_after (array_fault lists) ∙ both.1)
+sound_where_no_fault (offset_column large true lists) none =
+    let both = first_none (offsets_fault lists.offsets) (text_array_fault lists) none in
+    sound_where_fine lists (type_fault large (binary_type large)) (sound_offsets lists.offsets both.0) (array_fine lists large None (none_after (text_array_fault lists) ∙ both.1))
 
-none_after : (fault : Option Cause) → (fault or_else None) ≡ fault
-none_after None = refl
-none_after (Some cause) = refl
+-- ---- parts
 
-own_binary_type : (large : Bool) → binary.type_fault large (binary.binary_type large) ≡ None
-own_binary_type true = refl
-own_binary_type false = refl
+pub count-slots : (column : RawLists) → AreSound column → length (slots_of column) ≡ count_of column
+count-slots (offset_column large text lists) sound = length-offset_slots lists sound
 
-own_text_type : (large : Bool) → text.type_fault large (text.text_type large) ≡ None
-own_text_type true = refl
-own_text_type false = refl
+pub count-part : (column : RawLists) (from n : ℕ) → AreSound column → from + n ≤ count_of column → count_of (part_of column from n) ≡ n
+unfolding sliced_lists
+count-part (offset_column large text lists) from n sound within =
+    let all = offsets_are lists sound in
+    let size = length-sublist lists.offsets from (n + 1) (omega arith) in
+    omega arith
 
-pub own_binary : (fault : Option Cause) (large : Bool) → (fault or_else binary.type_fault large (binary.binary_type large)) ≡ fault
-own_binary fault large = ap (λ (type : Option Cause). fault or_else type) (own_binary_type large) ∙ none_after fault
+pub part-part : (column : RawLists) (from n start m : ℕ) → AreSound column → from + n ≤ count_of column → start + m ≤ n → part_of (part_of column from n) start m ≡ part_of column (from + start) m
+part-part (offset_column large text lists) from n start m sound within inside = ap (offset_column large text) (slices_are_one lists from n start m sound within inside)
 
-pub own_text : (fault : Option Cause) (large : Bool) → (fault or_else text.type_fault large (text.text_type large)) ≡ fault
-own_text fault large = ap (λ (type : Option Cause). fault or_else type) (own_text_type large) ∙ none_after fault
+-- a part has its column's kind
+pub retyped-part : (column : RawLists) (from n : ℕ) → retyped (is_text (column_kind column)) (part_of column from n) ≡ part_of column from n
+retyped-part (offset_column large text lists) from n = ap (λ (kind : Bool). offset_column large kind (sliced_lists lists from n)) (text_is large text)
 
--- ---- flags of parts
+-- ---- lists as they are read
 
-replicate-sublist : (n from k : ℕ) → from + k ≤ n → sublist (replicate n true) from k ≡ replicate k true
-replicate-sublist n from k within = ap (take k) (drop-replicate from n true) ∙ take-replicate k (n - from) true (omega arith)
+-- the part with all slots
+pub as_read-whole : (column : RawLists) → AreSound column → as_read (part_of column 0 (count_of column)) ≡ as_read column
+unfolding sliced_lists
+as_read-whole (offset_column large text lists) sound =
+    let n = slot_count lists in
+    let part = sliced_lists lists 0 n in
+    let flags = flags_of n lists.flags in
+    let own : sublist lists.offsets 0 (n + 1) ≡ lists.offsets = ap (λ (k : ℕ). take k lists.offsets) (sym (offsets_are lists sound)) ∙ take-length lists.offsets in
+    let read : flags_of (slot_count part) part.flags ≡ flags =
+    ap (λ (k : ℕ). flags_of k part.flags) (count-part (offset_column large text lists) 0 n sound (omega arith))
+    ∙ flags-sliced lists 0 n sound (omega arith)
+    ∙ ap (λ (k : ℕ). take k flags) (sym (flags_are lists sound))
+    ∙ take-length flags in
+    ap (λ (offsets : List ℤ). offset_column large text (offset_lists offsets lists.values (Some (flags_of (slot_count part) part.flags)))) own
+    ∙ ap (λ (bits : List Bool). offset_column large text (offset_lists lists.offsets lists.values (Some bits))) read
 
-pub flags_of-part : (flags : Option (List Bool)) (n from k : ℕ) → from + k ≤ n → flags_of k (part_flags flags from k) ≡ sublist (flags_of n flags) from k
-flags_of-part None n from k within = sym (replicate-sublist n from k within)
-flags_of-part (Some bits) n from k within = refl
-
--- the part that has all slots
-pub flags_of-whole : (flags : Option (List Bool)) (n : ℕ) → length (flags_of n flags) ≡ n → flags_of n flags ≡ flags_of n (part_flags flags 0 n)
-flags_of-whole None n all = refl
-flags_of-whole (Some bits) n all = sym (ap (λ k. take k bits) (sym all) ∙ take-length bits)
-
--- ---- columns that are alike
-
-pub alike_slots : (a b : RawLists) → AreAlike a b → slots_of a ≡ slots_of b
-alike_slots a b alike = same_slots a.lists b.lists alike.offsets alike.values alike.flags
+pub slots-as_read : (column : RawLists) → slots_of (as_read column) ≡ slots_of column
+unfolding offset_slots
+slots-as_read (offset_column large text lists) = refl
 
 pub ruleset columns = (bytes_well_formed, texts_well_formed)

@@ -1,3 +1,4 @@
 pub mod ColumnsLemmas
 pub mod StepsLemmas
 pub mod PlansLemmas
+pub mod CutsLemmas

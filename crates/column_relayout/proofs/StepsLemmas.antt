@@ -3,32 +3,19 @@ use Rattle.std.proofs.Common.{◌≡◌, ℕ, ◌+◌, ◌-◌, ◌<◌, ◌≤�
 use Rattle.std.proofs.Math.Seq.{take-length}
 use Rattle.std.proofs.lemmas.Bool.Decides.{nat_tests}
 use Rattle.std.proofs.lemmas.List.{length-drop}
-use Rattle.column_base.specs.declared.errors.Cause.{Cause}
 use Rattle.column_base.specs.declared.errors.Cause.TheVariants.{StepRange, WrongKind}
-use Rattle.column_base.specs.Answers.{cause_if}
 use Rattle.column_base.specs.Kinds.{Slot, ColumnKind}
 use Rattle.column_base.specs.Lists.{sublist}
 use Rattle.column_base.specs.Slots.{values_of}
-use Rattle.column_base.proofs.ListsLemmas.{length-sublist}
-use Rattle.column_storage.specs.Bits.{flags_of, sliced_flags}
+use Rattle.column_base.proofs.AnswersLemmas.{cause_none}
 use Rattle.column_offset.specs.Text.{texts_fault}
-use Rattle.column_binary.specs.Slots.{OffsetLists, slot_count, offset_slots, sliced_lists, AreSoundLists}
-use Rattle.column_binary.proofs.SlotsLemmas.{offsets_are, flags_are, flags-sliced}
+use Rattle.column_binary.specs.Slots.{OffsetLists, offset_slots}
 use Rattle.column_relayout.specs.declared.steps.Step.TheVariants.{Slice, Left, Right, ToUtf8, ToBinary}
-use Rattle.column_relayout.specs.Kinds.{is_text, is_binary, text_kind, binary_kind}
-use Rattle.column_relayout.specs.Columns.{raw_lists, IsWellFormed, AreAlike}
-use Rattle.column_relayout.specs.Plans.{range_fault, step_fault, slots_after, part_flags, part_of}
+use Rattle.column_relayout.specs.Kinds.{is_text, is_binary, offset_kind}
+use Rattle.column_relayout.specs.Columns.{RawLists, offset_column, column_kind, slots_of, count_of, part_of, IsWellFormed}
+use Rattle.column_relayout.specs.Plans.{range_fault, step_fault, slots_after, light_step}
 use Rattle.column_relayout.specs.Steps.{StepsTo}
-use Rattle.column_relayout.proofs.ColumnsLemmas.{flags_of-part, flags_of-whole}
-
-cause_none : (test : Bool) (cause : Cause) → cause_if test cause ≡ None → test ≡ false
-cause_none true cause none = absurd (cc)
-cause_none false cause none = refl
-
-pub within_range : (count end : ℕ) → range_fault count end ≡ None → end ≤ count
-within_range count end none =
-    let inside : nat_lt count end ≡ false = cause_none _ StepRange none in
-    grind (arith, nat_tests)
+use Rattle.column_relayout.proofs.ColumnsLemmas.{text_is, binary_is, to_text_kind, to_binary_kind, kind-part}
 
 -- ---- parts of the slots
 
@@ -51,68 +38,52 @@ range_fits count end within = let inside : nat_lt count end ≡ false = grind (a
 pub range_passes : (count end : ℕ) → count < end → range_fault count end ≡ Some StepRange
 range_passes count end past = let outside : nat_lt count end ≡ true = grind (arith, nat_tests) in rw outside refl
 
--- a slice has the lists of the span that it names
-sliced_alike : (kind : ColumnKind) (lists : OffsetLists) (from n : ℕ) → AreSoundLists lists → from + n ≤ slot_count lists → AreAlike (raw_lists kind (sliced_lists lists from n)) (part_of (raw_lists kind lists) kind (from, n))
-unfolding sliced_lists part_of
-sliced_alike kind lists from n sound within =
-    let count = offsets_are lists sound in
-    let size = length-sublist lists.offsets from (n + 1) (omega arith) in
-    let few : length (sublist lists.offsets from (n + 1)) - 1 ≡ n = omega arith in
-    record {
-      kinds = refl;
-      offsets = refl;
-      values = refl;
-      flags =
-          ap (λ (k : ℕ). flags_of k (sliced_flags lists.flags from n)) few
-          ∙ flags-sliced lists from n sound within
-          ∙ sym (flags_of-part lists.flags (slot_count lists) from n within)
-          ∙ ap (λ (k : ℕ). flags_of k (part_flags lists.flags from n)) (sym few);
-    }
+pub within_range : (count end : ℕ) → range_fault count end ≡ None → end ≤ count
+within_range count end none =
+    let inside : nat_lt count end ≡ false = cause_none _ StepRange none in
+    grind (arith, nat_tests)
 
-pub slice_steps : (kind : ColumnKind) (lists new : OffsetLists) (from n : ℕ) → IsWellFormed (raw_lists kind lists) → from + n ≤ slot_count lists → new ≡ sliced_lists lists from n → offset_slots new ≡ sublist (offset_slots lists) from n → IsWellFormed (raw_lists kind new) → StepsTo (raw_lists kind lists) (Slice from n) (raw_lists kind new)
-unfolding slots_after
-slice_steps kind lists new from n old within is slots formed =
-    let e : 0 + from ≡ from = omega arith in
-    record {
-      well_formed = formed;
-      kind = refl;
-      slots = slots;
-      light = λ _. rw (e, is) (sliced_alike kind lists from n old.sound within);
-    }
-
-pub left_steps : (kind : ColumnKind) (lists new : OffsetLists) (n : ℕ) → IsWellFormed (raw_lists kind lists) → 0 + n ≤ slot_count lists → new ≡ sliced_lists lists 0 n → offset_slots new ≡ sublist (offset_slots lists) 0 n → IsWellFormed (raw_lists kind new) → StepsTo (raw_lists kind lists) (Left n) (raw_lists kind new)
-unfolding slots_after
-left_steps kind lists new n old within is slots formed = record {
+pub slice_steps : (old new : RawLists) (from n : ℕ) → new ≡ part_of old from n → slots_of new ≡ sublist (slots_of old) from n → IsWellFormed new → StepsTo old (Slice from n) new
+unfolding slots_after light_step
+slice_steps old new from n is slots formed = record {
   well_formed = formed;
-  kind = refl;
+  kind = ap column_kind is ∙ kind-part old from n;
   slots = slots;
-  light = λ _. rw is (sliced_alike kind lists 0 n old.sound within);
+  laid = is;
 }
 
-pub right_steps : (kind : ColumnKind) (lists new : OffsetLists) (n : ℕ) → IsWellFormed (raw_lists kind lists) → n ≤ slot_count lists → length (offset_slots lists) ≡ slot_count lists → new ≡ sliced_lists lists n (slot_count lists - n) → offset_slots new ≡ sublist (offset_slots lists) n (slot_count lists - n) → IsWellFormed (raw_lists kind new) → StepsTo (raw_lists kind lists) (Right n) (raw_lists kind new)
-unfolding slots_after
-right_steps kind lists new n old within count is slots formed =
-    let e : 0 + n ≡ n = omega arith in
-    let rest = length-drop n (offset_slots lists) in
-    let all : slot_count lists - n ≡ length (drop n (offset_slots lists)) = omega arith in
+pub left_steps : (old new : RawLists) (n : ℕ) → new ≡ part_of old 0 n → slots_of new ≡ sublist (slots_of old) 0 n → IsWellFormed new → StepsTo old (Left n) new
+unfolding slots_after light_step
+left_steps old new n is slots formed = record {
+  well_formed = formed;
+  kind = ap column_kind is ∙ kind-part old 0 n;
+  slots = slots;
+  laid = is;
+}
+
+pub right_steps : (old new : RawLists) (n : ℕ) → length (slots_of old) ≡ count_of old → new ≡ part_of old n (count_of old - n) → slots_of new ≡ sublist (slots_of old) n (count_of old - n) → IsWellFormed new → StepsTo old (Right n) new
+unfolding slots_after light_step
+right_steps old new n count is slots formed =
+    let rest = length-drop n (slots_of old) in
+    let all : count_of old - n ≡ length (drop n (slots_of old)) = omega arith in
     record {
       well_formed = formed;
-      kind = refl;
-      slots = slots ∙ ap (λ (k : ℕ). take k (drop n (offset_slots lists))) all ∙ take-length (drop n (offset_slots lists));
-      light = λ _. rw (e, is) (sliced_alike kind lists n (slot_count lists - n) old.sound (omega arith));
+      kind = ap column_kind is ∙ kind-part old n (count_of old - n);
+      slots = slots ∙ ap (λ (k : ℕ). take k (drop n (slots_of old))) all ∙ take-length (drop n (slots_of old));
+      laid = is;
     }
 
 pub ruleset cut_laws = (slice_fault, left_fault, right_fault)
 
 -- ---- conversions
 
-pub to_utf8_fault : (kind : ColumnKind) (slots : List Slot) → is_binary kind ≡ true → step_fault kind slots ToUtf8 ≡ texts_fault (values_of slots)
+pub to_utf8_fault : (large : Bool) (slots : List Slot) → step_fault (offset_kind large false) slots ToUtf8 ≡ texts_fault (values_of slots)
 unfolding step_fault
-to_utf8_fault kind slots bytes = rw bytes refl
+to_utf8_fault large slots = rw (binary_is large) refl
 
-pub to_binary_fault : (kind : ColumnKind) (slots : List Slot) → is_text kind ≡ true → step_fault kind slots ToBinary ≡ None
+pub to_binary_fault : (large : Bool) (slots : List Slot) → step_fault (offset_kind large true) slots ToBinary ≡ None
 unfolding step_fault
-to_binary_fault kind slots text = rw text refl
+to_binary_fault large slots = rw (text_is large true) refl
 
 pub not_bytes : (kind : ColumnKind) (slots : List Slot) → is_binary kind ≡ false → step_fault kind slots ToUtf8 ≡ Some WrongKind
 unfolding step_fault
@@ -122,38 +93,22 @@ pub not_texts : (kind : ColumnKind) (slots : List Slot) → is_text kind ≡ fal
 unfolding step_fault
 not_texts kind slots other = rw other refl
 
--- a column has the lists of the span that has all slots, whatever its kind
-pub whole_alike : (kind other : ColumnKind) (lists : OffsetLists) → AreSoundLists lists → AreAlike (raw_lists other lists) (part_of (raw_lists kind lists) other (0, slot_count lists))
-unfolding part_of
-whole_alike kind other lists sound =
-    let n = slot_count lists in
-    let all : n + 1 ≡ length lists.offsets = sym (offsets_are lists sound) in
-    let offsets : take (n + 1) lists.offsets ≡ lists.offsets = ap (λ k. take k lists.offsets) all ∙ take-length lists.offsets in
-    record {
-      kinds = refl;
-      offsets = sym offsets;
-      values = refl;
-      flags =
-          flags_of-whole lists.flags n (flags_are lists sound)
-          ∙ ap (λ ns. flags_of (length ns - 1) (part_flags lists.flags 0 n)) (sym offsets);
-    }
-
-pub to_utf8_steps : (kind text : ColumnKind) (lists new : OffsetLists) → text_kind kind ≡ text → new ≡ lists → IsWellFormed (raw_lists text new) → StepsTo (raw_lists kind lists) ToUtf8 (raw_lists text new)
-unfolding slots_after
-to_utf8_steps kind text lists new kinds same formed = record {
+pub to_utf8_steps : (large : Bool) (lists new : OffsetLists) → new ≡ lists → IsWellFormed (offset_column large true new) → StepsTo (offset_column large false lists) ToUtf8 (offset_column large true new)
+unfolding slots_after light_step
+to_utf8_steps large lists new same formed = record {
   well_formed = formed;
-  kind = sym kinds;
+  kind = sym (to_text_kind large);
   slots = ap offset_slots same;
-  light = λ _. rw (kinds, ← same) (whole_alike kind text new formed.sound);
+  laid = ap (offset_column large true) same;
 }
 
-pub to_binary_steps : (kind bytes : ColumnKind) (lists new : OffsetLists) → binary_kind kind ≡ bytes → new ≡ lists → IsWellFormed (raw_lists bytes new) → StepsTo (raw_lists kind lists) ToBinary (raw_lists bytes new)
-unfolding slots_after
-to_binary_steps kind bytes lists new kinds same formed = record {
+pub to_binary_steps : (large : Bool) (lists new : OffsetLists) → new ≡ lists → IsWellFormed (offset_column large false new) → StepsTo (offset_column large true lists) ToBinary (offset_column large false new)
+unfolding slots_after light_step
+to_binary_steps large lists new same formed = record {
   well_formed = formed;
-  kind = sym kinds;
+  kind = sym (to_binary_kind large);
   slots = ap offset_slots same;
-  light = λ _. rw (kinds, ← same) (whole_alike kind bytes new formed.sound);
+  laid = ap (offset_column large false) same;
 }
 
 pub ruleset kind_laws = (not_bytes, not_texts)

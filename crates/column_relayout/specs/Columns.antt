@@ -1,47 +1,54 @@
--- Raw columns: a kind with its lists.
-use Rattle.std.specs.Prelude.{◌≡◌, ℕ, true, List, if◌then◌else◌}
+-- Raw columns: the lists of a layout, and what they mean. Each word has a line for each layout.
+use Rattle.std.specs.Prelude.{◌≡◌, ℕ, pos, ◌≤ℤ◌, Bool, true, List, if◌then◌else◌}
 use Rattle.std.specs.declared.option.Option.{Option}
 use Rattle.column_base.specs.declared.errors.Cause.{Cause}
 use Rattle.column_base.specs.Answers.{◌or_else◌}
+use Rattle.column_base.specs.Integers.{greatest_offset}
 use Rattle.column_base.specs.Kinds.{Slot, ColumnKind}
 use Rattle.column_base.specs.Slots.{values_of}
-use Rattle.column_storage.specs.Bits.{flags_of}
-use Rattle.column_offset.specs.Offsets.{offsets_fault}
+use Rattle.column_offset.specs.Offsets.{last_of, offsets_fault}
 use Rattle.column_offset.specs.Text.{are_well_formed_utf8}
-use Rattle.column_binary.specs.Slots.{OffsetLists, slot_count, offset_slots, array_fault, AreSoundLists}
+use Rattle.column_binary.specs.Slots.{OffsetLists, slot_count, offset_slots, array_fault, AreSoundLists, sliced_lists}
 use Rattle.column_utf8.specs.Texts.{text_array_fault}
-use Rattle.column_relayout.specs.Kinds.{is_text}
+use Rattle.column_relayout.specs.Kinds.{is_text, offset_kind}
 
--- A kind with its lists. This library's own; the lists are those of the layouts of the Arrow columnar format.
-pub record RawLists : Type 0 where
-  pub kind : ColumnKind
-  pub lists : OffsetLists
+-- Arrow columnar format. "Variable-size Binary Layout": lists with offsets, which have 64 bits where the first flag is
+-- true and 32 else, of texts where the second is true and of byte strings else.
+pub data RawLists : Type 0 where
+  offset_column : Bool → Bool → OffsetLists → RawLists
 
-abbrev pub raw_lists : ColumnKind → OffsetLists → RawLists
-raw_lists kind lists = record { kind = kind; lists = lists }
+abbrev pub column_kind : RawLists → ColumnKind
+column_kind (offset_column large text lists) = offset_kind large text
 
 -- the slots that a raw column means
 abbrev pub slots_of : RawLists → List Slot
-slots_of column = offset_slots column.lists
+slots_of (offset_column large text lists) = offset_slots lists
 
 abbrev pub count_of : RawLists → ℕ
-count_of column = slot_count column.lists
+count_of (offset_column large text lists) = slot_count lists
 
 -- the first fault of parts
 abbrev pub parts_fault : RawLists → Option Cause
-parts_fault column =
-    offsets_fault column.lists.offsets
-    or_else (if is_text column.kind then text_array_fault column.lists else array_fault column.lists)
+parts_fault (offset_column large text lists) = offsets_fault lists.offsets or_else (if text then text_array_fault lists else array_fault lists)
 
--- Lists of which nothing is to be refused: they are sound, and where the kind is one of texts, each slot by itself is
--- UTF-8, a null one too. Unicode, table 3-7.
+abbrev pub AreSound : RawLists → Type 0
+AreSound (offset_column large text lists) = AreSoundLists lists
+
+-- "Variable-size Binary Layout": the last offset is at most the greatest of its type.
+abbrev pub IsWithinType : RawLists → Type 0
+IsWithinType (offset_column large text lists) = last_of lists.offsets ≤ℤ pos (greatest_offset large)
+
+-- Lists of which nothing is to be refused: they are sound and lie within their type, and where the kind is one of
+-- texts, each slot by itself is UTF-8, a null one too. Unicode, table 3-7.
 pub record IsWellFormed (column : RawLists) : Type 0 where
-  pub sound : AreSoundLists column.lists
-  pub texts : is_text column.kind ≡ true → are_well_formed_utf8 (values_of (slots_of column)) ≡ true
+  pub sound : AreSound column
+  pub within_type : IsWithinType column
+  pub texts : is_text (column_kind column) ≡ true → are_well_formed_utf8 (values_of (slots_of column)) ≡ true
 
--- The kinds, all lists but the flags, and the flags that the slots read are equal.
-pub record AreAlike (a b : RawLists) : Type 0 where
-  pub kinds : a.kind ≡ b.kind
-  pub offsets : a.lists.offsets ≡ b.lists.offsets
-  pub values : a.lists.values ≡ b.lists.values
-  pub flags : flags_of (count_of a) a.lists.flags ≡ flags_of (count_of b) b.lists.flags
+-- n slots from a place on: their lists, with all the value bytes
+abbrev pub part_of : RawLists → ℕ → ℕ → RawLists
+part_of (offset_column large text lists) from n = offset_column large text (sliced_lists lists from n)
+
+-- the same lists as texts, or as byte strings, in a layout that has both
+abbrev pub retyped : Bool → RawLists → RawLists
+retyped text (offset_column large old lists) = offset_column large text lists

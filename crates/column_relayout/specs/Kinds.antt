@@ -50,3 +50,10 @@ binary_kind kinds.Utf8_32 = kinds.Binary32
 binary_kind kinds.Utf8_64 = kinds.Binary64
 binary_kind kinds.Utf8View = kinds.BinView
 binary_kind kind = kind
+
+-- The kind of lists with offsets, which have 64 bits where they are large: of texts, or of byte strings.
+abbrev pub offset_kind : Bool → Bool → ColumnKind
+offset_kind false false = kinds.Binary32
+offset_kind false true = kinds.Utf8_32
+offset_kind true false = kinds.Binary64
+offset_kind true true = kinds.Utf8_64

@@ -2,5 +2,6 @@ pub mod Kinds
 pub mod Columns
 pub mod Plans
 pub mod Steps
+pub mod Cuts
 pub mod Arrays
 pub mod Relayouts

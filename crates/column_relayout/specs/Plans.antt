@@ -1,5 +1,5 @@
--- What a plan means for lists of slots, where it faults, and which plans move no byte.
-use Rattle.std.specs.Prelude.{◌≡◌, ℕ, ◌+◌, ◌-◌, Bool, true, not, nat_lt, List, [], ◌∷◌, length, take, drop, fold, MatchBool, Option, Some, None}
+-- What a plan means for lists of slots, where it faults, and what steps that move no byte leave of the lists.
+use Rattle.std.specs.Prelude.{◌≡◌, ℕ, ◌+◌, ◌-◌, Bool, true, false, not, nat_lt, List, [], ◌∷◌, length, take, drop, fold, MatchBool, Option, Some, None}
 use Rattle.column_base.specs.declared.errors.Cause.{Cause}
 use Rattle.column_base.specs.declared.errors.Cause.TheVariants.{StepRange, WrongKind}
 use Rattle.column_base.specs.Answers.{cause_if, ◌or_else◌}
@@ -7,11 +7,10 @@ use Rattle.column_base.specs.Kinds.{Slot, ColumnKind}
 use Rattle.column_base.specs.Lists.{sublist}
 use Rattle.column_base.specs.Slots.{values_of}
 use Rattle.column_offset.specs.Text.{texts_fault}
-use Rattle.column_binary.specs.Slots.{offset_lists}
 use Rattle.column_relayout.specs.declared.steps.Step.{Step}
 use Rattle.column_relayout.specs.declared.steps.Step.TheVariants.{Slice, Left, Right, ToUtf8, ToBinary}
 use Rattle.column_relayout.specs.Kinds.{is_text, is_binary, text_kind, binary_kind}
-use Rattle.column_relayout.specs.Columns.{RawLists, raw_lists, slots_of, count_of}
+use Rattle.column_relayout.specs.Columns.{RawLists, column_kind, slots_of, count_of, part_of, retyped}
 
 -- ---- one step
 
@@ -29,19 +28,16 @@ step_fault kind slots ToBinary = cause_if (not (is_text kind)) WrongKind
 
 -- the kind that a step gives
 abbrev pub kind_after : ColumnKind → Step → ColumnKind
-kind_after kind (Slice from n) = kind
-kind_after kind (Left n) = kind
-kind_after kind (Right n) = kind
 kind_after kind ToUtf8 = text_kind kind
 kind_after kind ToBinary = binary_kind kind
+kind_after kind step = kind
 
 -- the slots that a step gives
 unfoldable pub slots_after : List Slot → Step → List Slot
 slots_after slots (Slice from n) = sublist slots from n
 slots_after slots (Left n) = take n slots
 slots_after slots (Right n) = drop n slots
-slots_after slots ToUtf8 = slots
-slots_after slots ToBinary = slots
+slots_after slots step = slots
 
 -- ---- the plan
 
@@ -60,7 +56,7 @@ meaning_from at kind slots [] = leads kind slots
 meaning_from at kind slots (step ∷ plan) = at_fault (step_fault kind slots step) at (meaning_from (at + 1) (kind_after kind step) (slots_after slots step) plan)
 
 abbrev pub plan_meaning : RawLists → List Step → Meaning
-plan_meaning column plan = meaning_from 0 column.kind (slots_of column) plan
+plan_meaning column plan = meaning_from 0 (column_kind column) (slots_of column) plan
 
 -- ---- light plans
 
@@ -81,26 +77,14 @@ abbrev pub ReachesHeavy : ColumnKind → List Slot → List Step → Type 0
 ReachesHeavy kind slots [] = ⊥
 ReachesHeavy kind slots (step ∷ plan) = (step_fault kind slots step ≡ None) × MatchBool (is_light step) (ReachesHeavy (kind_after kind step) (slots_after slots step) plan) (Unit {0})
 
--- The slots that light steps leave of the first ones: from which on, and how many.
-abbrev pub span_after : ℕ × ℕ → Step → ℕ × ℕ
-span_after span (Slice from n) = (span.0 + from, n)
-span_after span (Left n) = (span.0, n)
-span_after span (Right n) = (span.0 + n, span.1 - n)
-span_after span ToUtf8 = span
-span_after span ToBinary = span
+-- what a light step leaves of the lists
+unfoldable pub light_step : RawLists → Step → RawLists
+light_step column (Slice from n) = part_of column from n
+light_step column (Left n) = part_of column 0 n
+light_step column (Right n) = part_of column n (count_of column - n)
+light_step column ToUtf8 = retyped true column
+light_step column ToBinary = retyped false column
 
-abbrev pub span_of : List Step → ℕ → ℕ × ℕ
-span_of plan n = fold span_after (0, n) plan
-
--- the flags of a span of slots
-abbrev pub part_flags : Option (List Bool) → ℕ → ℕ → Option (List Bool)
-part_flags None from n = None
-part_flags (Some flags) from n = Some (sublist flags from n)
-
--- The lists of a span of slots: their offsets, first and last included, all the value bytes, and their flags.
-unfoldable pub part_of : RawLists → ColumnKind → ℕ × ℕ → RawLists
-part_of column kind span = raw_lists kind (offset_lists (sublist column.lists.offsets span.0 (span.1 + 1)) column.lists.values (part_flags column.lists.flags span.0 span.1))
-
--- what a light plan leaves of the lists
+-- what a light plan leaves of the lists: each step what it leaves of those before it
 abbrev pub light_lists : RawLists → List Step → RawLists
-light_lists column plan = part_of column (fold kind_after column.kind plan) (span_of plan (count_of column))
+light_lists column plan = fold light_step column plan

@@ -1,12 +1,21 @@
--- What one step makes of a column.
-use Rattle.std.specs.Prelude.{◌≡◌, true}
+-- What one step makes of a column, and what the steps of a plan make of it, one after the other.
+use Rattle.std.specs.Prelude.{◌≡◌, List, [], ◌∷◌, None}
 use Rattle.column_relayout.specs.declared.steps.Step.{Step}
-use Rattle.column_relayout.specs.Columns.{RawLists, slots_of, count_of, IsWellFormed, AreAlike}
-use Rattle.column_relayout.specs.Plans.{kind_after, slots_after, is_light, part_of, span_after}
+use Rattle.column_relayout.specs.Columns.{RawLists, column_kind, slots_of, IsWellFormed}
+use Rattle.column_relayout.specs.Plans.{step_fault, kind_after, slots_after, light_step}
 
--- The new column is well formed, its kind and slots are what the step gives, and a light step keeps the lists.
+-- what a step promises of the lists
+abbrev pub IsLaid : RawLists → Step → RawLists → Type 0
+IsLaid old step new = new ≡ light_step old step
+
+-- The new column is well formed, its kind and slots are what the step gives, and its lists what the step promises.
 pub record StepsTo (old : RawLists) (step : Step) (new : RawLists) : Type 0 where
   pub well_formed : IsWellFormed new
-  pub kind : new.kind ≡ kind_after old.kind step
+  pub kind : column_kind new ≡ kind_after (column_kind old) step
   pub slots : slots_of new ≡ slots_after (slots_of old) step
-  pub light : is_light step ≡ true → AreAlike new (part_of old (kind_after old.kind step) (span_after (0, count_of old) step))
+  pub laid : IsLaid old step new
+
+-- The steps of a plan, one after the other and none with a fault, make the new column of the old one.
+abbrev pub Relays : RawLists → List Step → RawLists → Type 0
+Relays old [] new = new ≡ old
+Relays old (step ∷ plan) new = (step_fault (column_kind old) (slots_of old) step ≡ None) × ((middle : RawLists) × StepsTo old step middle × Relays middle plan new)

@@ -1,5 +1,9 @@
 //! Raw parts, and the columns that they become.
 
+ghost use Rattle.column_relayout.specs.Columns.{IsWellFormed};
+ghost use Rattle.column_relayout.specs.Arrays.{lists_of};
+
+use crate::arrays::Column;
 use column_base::Cause;
 use column_binary::BinaryArray;
 use column_storage::{Bitmap, Buffer};
@@ -43,6 +47,20 @@ pub enum AnyArray {
     Utf8_32(Utf8Array<i32>),
     /// Texts with offsets of 64 bits.
     Utf8_64(Utf8Array<i64>),
+}
+
+impl AnyArray {
+    /// Tells proofs that the column is well formed.
+    pub fn known(&self)
+        ensures { IsWellFormed (lists_of self.now) }
+    {
+        match self {
+            AnyArray::Binary32(array) => Column::known(array),
+            AnyArray::Binary64(array) => Column::known(array),
+            AnyArray::Utf8_32(array) => Column::known(array),
+            AnyArray::Utf8_64(array) => Column::known(array),
+        }
+    }
 }
 
 /// Why a plan gave no column.

@@ -1,18 +1,18 @@
 //! The steps from byte strings to texts, and back.
 
-ghost use Rattle.std.specs.Prelude.{◌≡◌};
-ghost use Rattle.column_base.specs.Answers.{GivesCause};
+ghost use Rattle.std.specs.Prelude.{◌≡◌, true, false, None};
 ghost use Rattle.column_binary.specs.Slots.{offset_slots};
 ghost use Rattle.column_relayout.specs.declared.steps.Step.TheVariants.{ToUtf8, ToBinary};
-ghost use Rattle.column_relayout.specs.Columns.{raw_lists};
+ghost use Rattle.column_relayout.specs.Columns.{offset_column};
+ghost use Rattle.column_relayout.specs.Kinds.{offset_kind};
 ghost use Rattle.column_relayout.specs.Plans.{step_fault};
 ghost use Rattle.column_relayout.specs.Steps.{StepsTo};
 ghost use Rattle.column_relayout.specs.Arrays.{lists_of};
-ghost use Rattle.column_relayout.specs.Relayouts.{StepGives};
+ghost use Rattle.column_relayout.specs.Relayouts.{GivesStep, StepGives};
 
+use crate::arrays::Column;
 use crate::columns::AnyArray;
-use crate::layout::{Column, Layout};
-use column_base::Cause;
+use column_base::{Cause, Offset};
 use column_binary::BinaryArray;
 use column_utf8::{Utf8Array, try_into_utf8};
 
@@ -45,23 +45,23 @@ pub fn step_to_binary(column: AnyArray) -> Result<AnyArray, Cause>
     }
 }
 
-fn to_texts<O: Layout>(array: BinaryArray<O>) -> Result<Utf8Array<O>, Cause>
-    ensures { GivesCause result (step_fault O.binary (offset_slots array) ToUtf8) (λ texts. StepsTo (raw_lists O.binary array) ToUtf8 (raw_lists O.text texts)) }
+fn to_texts<O: Offset>(array: BinaryArray<O>) -> Result<Utf8Array<O>, Cause>
+    ensures { GivesStep (λ texts. offset_column O.IS_LARGE true texts) (offset_column O.IS_LARGE false array) ToUtf8 result }
 {
     match try_into_utf8(array) {
         Ok(texts) => {
-            let _slots = texts.count();
+            Column::known(&texts);
             Ok(texts)
         }
         Err((_, cause)) => Err(cause),
     }
 }
 
-fn to_bytes<O: Layout>(array: Utf8Array<O>) -> BinaryArray<O>
-    ensures fault { step_fault O.text (offset_slots array) ToBinary ≡ None }
-    ensures steps { StepsTo (raw_lists O.text array) ToBinary (raw_lists O.binary result) }
+fn to_bytes<O: Offset>(array: Utf8Array<O>) -> BinaryArray<O>
+    ensures fault { step_fault (offset_kind O.IS_LARGE true) (offset_slots array) ToBinary ≡ None }
+    ensures steps { StepsTo (offset_column O.IS_LARGE true array) ToBinary (offset_column O.IS_LARGE false result) }
 {
     let bytes = array.into_binary();
-    let _slots = bytes.count();
+    Column::known(&bytes);
     bytes
 }

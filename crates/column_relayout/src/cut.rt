@@ -1,17 +1,12 @@
 //! The steps that take a part of a column's slots.
 
 ghost use Rattle.std.specs.Prelude.{◌≡◌, ◌+◌, nat_le};
-ghost use Rattle.column_base.specs.Answers.{GivesCause};
-ghost use Rattle.column_binary.specs.Slots.{offset_slots};
 ghost use Rattle.column_relayout.specs.declared.steps.Step.TheVariants.{Slice, Left, Right};
-ghost use Rattle.column_relayout.specs.Columns.{raw_lists};
-ghost use Rattle.column_relayout.specs.Plans.{step_fault};
-ghost use Rattle.column_relayout.specs.Steps.{StepsTo};
 ghost use Rattle.column_relayout.specs.Arrays.{lists_of};
-ghost use Rattle.column_relayout.specs.Relayouts.{StepGives};
+ghost use Rattle.column_relayout.specs.Relayouts.{GivesStep, StepGives};
 
+use crate::arrays::Column;
 use crate::columns::AnyArray;
-use crate::layout::Column;
 use column_base::Cause;
 
 /// The `length` slots from slot `offset` on. The column is consumed. Takes no memory.
@@ -58,10 +53,12 @@ pub fn step_right(column: AnyArray, count: usize) -> Result<AnyArray, Cause>
 
 #[tactic(auto, using(crate::proofs::StepsLemmas::cut_laws))]
 fn slice<C: Column>(column: C, offset: usize, length: usize) -> Result<C, Cause>
-    ensures { GivesCause result (step_fault C.kind (offset_slots (C.lists column)) (Slice offset length)) (λ part. StepsTo (raw_lists C.kind (C.lists column)) (Slice offset length) (raw_lists C.kind (C.lists part))) }
+    ensures { GivesStep C.raw (C.raw column) (Slice offset length) result }
 {
     if is_within(column.count(), offset, length) {
-        Ok(column.part(offset, length))
+        let part = column.part(offset, length);
+        part.known();
+        Ok(part)
     } else {
         Err(Cause::StepRange)
     }
@@ -69,10 +66,12 @@ fn slice<C: Column>(column: C, offset: usize, length: usize) -> Result<C, Cause>
 
 #[tactic(auto, using(crate::proofs::StepsLemmas::cut_laws))]
 fn left<C: Column>(column: C, count: usize) -> Result<C, Cause>
-    ensures { GivesCause result (step_fault C.kind (offset_slots (C.lists column)) (Left count)) (λ part. StepsTo (raw_lists C.kind (C.lists column)) (Left count) (raw_lists C.kind (C.lists part))) }
+    ensures { GivesStep C.raw (C.raw column) (Left count) result }
 {
     if count <= column.count() {
-        Ok(column.part(0, count))
+        let part = column.part(0, count);
+        part.known();
+        Ok(part)
     } else {
         Err(Cause::StepRange)
     }
@@ -80,11 +79,13 @@ fn left<C: Column>(column: C, count: usize) -> Result<C, Cause>
 
 #[tactic(auto, using(crate::proofs::StepsLemmas::cut_laws))]
 fn right<C: Column>(column: C, count: usize) -> Result<C, Cause>
-    ensures { GivesCause result (step_fault C.kind (offset_slots (C.lists column)) (Right count)) (λ part. StepsTo (raw_lists C.kind (C.lists column)) (Right count) (raw_lists C.kind (C.lists part))) }
+    ensures { GivesStep C.raw (C.raw column) (Right count) result }
 {
     let slots = column.count();
     if count <= slots {
-        Ok(column.part(count, slots - count))
+        let part = column.part(count, slots - count);
+        part.known();
+        Ok(part)
     } else {
         Err(Cause::StepRange)
     }

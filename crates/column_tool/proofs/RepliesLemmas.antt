@@ -1,11 +1,11 @@
 -- What follows from a reply.
-use Rattle.std.proofs.Common.{◌≡◌, ℕ, List, Option, None, Result, Ok, Err, refl, sym, ◌∙◌, subst, inl}
+use Rattle.std.proofs.Common.{◌≡◌, ℕ, List, Option, None, Result, Ok, Err, refl, sym, ◌∙◌, ap, subst, inl}
 use Rattle.column_base.specs.declared.errors.Cause.{Cause}
 use Rattle.column_relayout.specs.declared.columns.ColumnError.{ColumnError}
 use Rattle.column_relayout.specs.declared.columns.ColumnError.TheVariants as refusals
 use Rattle.column_relayout.specs.Columns.{RawLists}
 use Rattle.column_relayout.specs.Arrays.{lists_of}
-use Rattle.column_relayout.specs.Plans.{Meaning, plan_meaning, light_lists}
+use Rattle.column_relayout.specs.Plans.{Meaning, plan_meaning}
 use Rattle.column_relayout.specs.Relayouts.{IsAnswered, Relayouts}
 use Rattle.column_document.specs.declared.field.DocFault.{DocFault}
 use Rattle.column_document.specs.Document.{Document}
@@ -14,7 +14,6 @@ use Rattle.column_tool.specs.declared.outcome.Outcome.TheVariants.{Done, Refused
 use Rattle.column_tool.specs.Text.{printed, refusal_line}
 use Rattle.column_tool.specs.Documents.{document_in}
 use Rattle.column_tool.specs.Replies.{parts_in, IsReply, IsColumnText, IsDueAfter, IsDue, AnswersAfter, AnswersExactly}
-use Rattle.column_tool.proofs.TextLemmas.{printed-alike}
 
 -- ---- the text
 
@@ -24,7 +23,7 @@ due_of_column document column text answered is =
       column = column;
       answered = answered;
       is = is;
-      light = λ light. is ∙ printed-alike column (light_lists (parts_in document) document.plan) (answered.light light);
+      light = λ light. is ∙ ap printed (answered.light light);
     } in
     subst (λ (fault : Option Cause). IsDueAfter document fault (plan_meaning (parts_in document) document.plan) text) (sym answered.sound)
     (subst (λ (meaning : Meaning). IsDueAfter document None meaning text) (sym answered.meaning) due)

@@ -1,15 +1,12 @@
 -- One more line of a text.
-use Rattle.std.proofs.Common.{◌≡◌, ℕ, ◌+◌, ◌<◌, ℤ, true, codes, List, [], ◌∷◌, ◌++◌, length, take, map, get_or, sym, ◌∙◌, ap, append-nil}
+use Rattle.std.proofs.Common.{◌≡◌, ℕ, ◌+◌, ◌<◌, ℤ, true, List, [], ◌∷◌, ◌++◌, length, take, map, get_or, sym, ◌∙◌, ap, append-nil}
 use Rattle.std.specs.List.{flat_map}
 use Rattle.std.proofs.lemmas.List.{take_more}
 use Rattle.std.proofs.lemmas.List.Concat.{flat_map-append}
 use Rattle.std.proofs.lemmas.List.Folds.{flat_map-map}
-use Rattle.hex.specs.Hex.{encode_lower}
-use Rattle.column_base.specs.Kinds.{Slot, ColumnKind}
+use Rattle.column_base.specs.Kinds.{Slot}
 use Rattle.column_base.specs.Slots.{slot_at}
-use Rattle.column_relayout.specs.Columns.{RawLists, slots_of, AreAlike}
-use Rattle.column_relayout.proofs.ColumnsLemmas.{alike_slots}
-use Rattle.column_tool.specs.Text.{slot_line, after_comma, numbers_text, offset_text, printed_head, printed}
+use Rattle.column_tool.specs.Text.{slot_line, after_comma}
 
 line_more : {X : Type 0} (f : X → List ℕ) (xs : List X) (i : ℕ) (d : X) → i < length xs → flat_map f (take (i + 1) xs) ≡ flat_map f (take i xs) ++ f (get_or xs i d)
 line_more f xs i d within =
@@ -27,13 +24,3 @@ next_number {X = X} int xs i x within is =
     ∙ line_more (λ (y : X). after_comma (int y)) xs i x within
     ∙ ap (λ (y : X). flat_map (λ (z : X). after_comma (int z)) (take i xs) ++ after_comma (int y)) (sym is)
     ∙ ap (λ (text : List ℕ). text ++ after_comma (int x)) (sym (flat_map-map after_comma int (take i xs)))
-
--- ---- columns that are alike
-
-pub printed-alike : (a b : RawLists) → AreAlike a b → printed a ≡ printed b
-unfolding printed
-printed-alike a b alike =
-    ap (λ (kind : ColumnKind). printed_head kind (slots_of a) ++ offset_text a.lists) alike.kinds
-    ∙ ap (λ (slots : List Slot). printed_head b.kind slots ++ offset_text a.lists) (alike_slots a b alike)
-    ∙ ap (λ (offsets : List ℤ). printed_head b.kind (slots_of b) ++ (codes "offsets=" ++ numbers_text offsets ++ codes "\nvalues=" ++ encode_lower a.lists.values ++ codes "\n")) alike.offsets
-    ∙ ap (λ (values : List ℕ). printed_head b.kind (slots_of b) ++ (codes "offsets=" ++ numbers_text b.lists.offsets ++ codes "\nvalues=" ++ encode_lower values ++ codes "\n")) alike.values

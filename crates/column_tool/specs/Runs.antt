@@ -6,7 +6,7 @@ use Rattle.column_base.specs.Kinds.{Slot, ColumnKind}
 use Rattle.column_port.specs.Causes.{Rose}
 use Rattle.column_port.specs.Streams.{IsWhole, TookPrefix}
 use Rattle.column_relayout.specs.declared.columns.ColumnError.{ColumnError}
-use Rattle.column_relayout.specs.Columns.{RawLists, AreAlike, parts_fault}
+use Rattle.column_relayout.specs.Columns.{RawLists, parts_fault}
 use Rattle.column_relayout.specs.Plans.{leads, plan_meaning, IsLight, light_lists}
 use Rattle.column_document.specs.declared.field.DocFault.{DocFault}
 use Rattle.column_document.specs.Document.{Document}
@@ -57,7 +57,7 @@ pub record Broke (e : Ends) : Type 0 where
 -- Where the source told its rest, that is a document, and where its plan is light, the column has the lists of its
 -- parts, cut.
 abbrev pub KeepsLists : Ends → RawLists → Type 0
-KeepsLists e column = IfSome e.told (λ bytes. (document : Document) → document_in bytes ≡ Ok document → IsLight document.plan → AreAlike column (light_lists (parts_in document) document.plan))
+KeepsLists e column = IfSome e.told (λ bytes. (document : Document) → document_in bytes ≡ Ok document → IsLight document.plan → column ≡ light_lists (parts_in document) document.plan)
 
 -- A document that leads to a column: bytes within the limit that have parts and a plan, in which no fault is found.
 pub record IsSoundDocument (bytes : List ℕ) : Type 0 where

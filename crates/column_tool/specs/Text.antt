@@ -9,7 +9,7 @@ use Rattle.column_relayout.specs.declared.columns.ColumnError.{ColumnError}
 use Rattle.column_relayout.specs.declared.columns.ColumnError.TheVariants.{NoMemory, Parts, Step}
 use Rattle.column_relayout.specs.Kinds.{kind_name}
 use Rattle.column_binary.specs.Slots.{OffsetLists}
-use Rattle.column_relayout.specs.Columns.{RawLists, slots_of}
+use Rattle.column_relayout.specs.Columns.{RawLists, offset_column, column_kind, slots_of}
 
 -- ---- a column
 
@@ -37,9 +37,13 @@ numbers_text (n ∷ ns) = signed_decimal n ++ flat_map after_comma ns
 abbrev pub offset_text : OffsetLists → List ℕ
 offset_text lists = codes "offsets=" ++ numbers_text lists.offsets ++ codes "\nvalues=" ++ encode_lower lists.values ++ codes "\n"
 
+-- the lists of a column
+abbrev pub lists_text : RawLists → List ℕ
+lists_text (offset_column large text lists) = offset_text lists
+
 -- a column whole
 unfoldable pub printed : RawLists → List ℕ
-printed column = printed_head column.kind (slots_of column) ++ offset_text column.lists
+printed column = printed_head (column_kind column) (slots_of column) ++ lists_text column
 
 -- ---- a refusal
 

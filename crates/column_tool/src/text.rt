@@ -9,7 +9,6 @@ ghost use Rattle.column_base.specs.Kinds.{ColumnKind};
 ghost use Rattle.column_relayout.specs.Kinds.{kind_of};
 ghost use Rattle.column_binary.specs.Slots.{offset_slots};
 ghost use Rattle.column_relayout.specs.Arrays.{lists_of};
-ghost use Rattle.column_relayout.specs.Columns.{raw_lists};
 ghost use Rattle.column_base.specs.Errors.{name_of};
 ghost use Rattle.column_tool.specs.Text.{printed, printed_head, slot_line, sign_of, after_comma, numbers_text, offset_text, refusal_line};
 
@@ -131,13 +130,12 @@ fn append_lists<O: PrintedOffset>(
     text.extend_from_slice(b"\n")
 }
 
-#[tactic(auto, unfolding(crate::specs::Text::printed))]
 fn array_text<O: PrintedOffset>(
     alloc: Global,
     kind: Kind,
     array: &BinaryArray<O>,
 ) -> Result<Vec<u8>, AllocError>
-    ensures { IfOk result (λ text. text.items ≡ printed (raw_lists (kind_of kind) array.now)) }
+    ensures { IfOk result (λ text. text.items ≡ printed_head (kind_of kind) (offset_slots array.now) ++ offset_text array.now) }
 {
     let mut text = Vec::new(alloc);
     append_head(&mut text, kind.name(), array.len())?;
@@ -150,6 +148,7 @@ fn array_text<O: PrintedOffset>(
 ///
 /// The line `ok KIND N`, a line for each slot with `+` where it is valid and `-` where it is null and its bytes in
 /// hexadecimal, and then its lists. `NoMemory` where there is none for the text.
+#[tactic(auto, unfolding(crate::specs::Text::printed))]
 pub fn text_of(alloc: Global, column: &AnyArray) -> Result<Vec<u8>, PolarsError>
     ensures { Answers result None (λ text. text.items ≡ printed (lists_of column.now)) }
 {

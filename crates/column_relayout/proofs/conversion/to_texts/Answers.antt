@@ -6,9 +6,9 @@ use Rattle.column_relayout.proofs.conversion.to_texts.Goals as goal
 pub returns-in-Ok : goal.returns-in-Ok
 returns-in-Ok g c =
     let same = c.in-Ok.ensures {u = tt} in (
-      to_utf8_fault g.O.Layout.binary _ g.O.Layout.binary_is ∙ same.0,
-      to_utf8_steps g.O.Layout.binary g.O.Layout.text c.args.array c.in-Ok.texts g.O.Layout.to_text same.1 c.count-slots.ensures.well_formed,
+      to_utf8_fault g.O.Offset.IS_LARGE _ ∙ same.0,
+      to_utf8_steps g.O.Offset.IS_LARGE c.args.array c.in-Ok.texts same.1 c.known.ensures,
     )
 
 pub returns : goal.returns
-returns g c = to_utf8_fault g.O.Layout.binary _ g.O.Layout.binary_is ∙ (c.in-Err.ensures {u = tt}).0
+returns g c = to_utf8_fault g.O.Offset.IS_LARGE _ ∙ (c.in-Err.ensures {u = tt}).0

@@ -7,5 +7,5 @@ pub returns-then-count : goal.returns-then-count
 returns-then-count g c =
     let within : c.args.count ≤ c.count.result = omega (arith, c.if-count.true) in (
       left_fault _ _ c.args.count ∙ range_fits _ c.args.count (omega (arith, c.count.ensures.slots)),
-      left_steps g.C.Column.kind (g.C.Column.lists c.args.column) (g.C.Column.lists c.part.result) c.args.count c.count.ensures.well_formed (omega (arith, c.count.ensures.count)) c.part.ensures.part c.part.ensures.slots c.part.ensures.well_formed,
+      left_steps (g.C.Column.raw c.args.column) (g.C.Column.raw c.part-part.result) c.args.count c.part-part.ensures.part c.part-part.ensures.slots c.known.ensures,
     )

@@ -3,35 +3,21 @@ use Rattle.std.proofs.Common.{get_or}
 use Rattle.std.proofs.lemmas.List.{get_or_default}
 use Rattle.column_relayout.specs.declared.steps.Step.TheVariants.{Slice}
 use Rattle.column_relayout.specs.Arrays.{lists_of, lists_of_parts}
-use Rattle.column_relayout.proofs.PlansLemmas.{reached_start, reached_step, reached_end, reached_light}
+use Rattle.column_relayout.proofs.PlansLemmas.{reached_start, reached_step, reached_end}
 use Rattle.column_relayout.proofs.plan.relayout.Goals as goal
 
 pub loop-i-init : goal.loop-i-init
 loop-i-init c =
     let assembled = (c.in-Ok.ensures {u = tt}).answer.1 in
-    record {
-      reached = reached_start (lists_of_parts c.args.parts) (lists_of c.in-Ok.column) c.args.plan.now assembled.0 assembled.1;
-      start = assembled.1;
-    }
+    reached_start (lists_of_parts c.args.parts) (lists_of c.in-Ok.column) c.args.plan.now assembled.0 assembled.1
 
 pub loop-i-preserved : goal.loop-i-preserved
 loop-i-preserved c =
     let taken = c.in-Ok-apply.ensures {u = tt} in
     let step = get_or c.args.plan.now c.loop-i.i (Slice 0 0) in
     let within = c.loop-i-test.true in
-    record {
-      reached = reached_step (lists_of_parts c.args.parts) (lists_of c.loop-i.column) (lists_of c.in-Ok-apply.next) c.args.plan.now c.loop-i.i step
-          c.loop-i.invariant.start c.loop-i.invariant.reached within (get_or_default c.args.plan.now c.loop-i.i (Slice 0 0) step within) taken.0 taken.1;
-      start = c.loop-i.invariant.start;
-    }
+    reached_step (lists_of_parts c.args.parts) (lists_of c.loop-i.column) (lists_of c.in-Ok-apply.next) c.args.plan.now c.loop-i.i step
+    c.loop-i.invariant within (get_or_default c.args.plan.now c.loop-i.i (Slice 0 0) step within) taken.0 taken.1
 
 pub returns-clause-answer : goal.returns-clause-answer
-returns-clause-answer c =
-    let reached = c.loop-i.invariant.reached in
-    let past = c.loop-i-test.false in
-    record {
-      sound = (c.in-Ok.ensures {u = tt}).answer.0;
-      meaning = reached_end (lists_of_parts c.args.parts) (lists_of c.loop-i.column) c.args.plan.now c.loop-i.i reached past;
-      well_formed = reached.well_formed;
-      light = reached_light (lists_of_parts c.args.parts) (lists_of c.loop-i.column) c.args.plan.now c.loop-i.i reached past;
-    }
+returns-clause-answer c = reached_end (lists_of_parts c.args.parts) (lists_of c.loop-i.column) c.args.plan.now c.loop-i.i (c.in-Ok.ensures {u = tt}).answer.0 c.loop-i.invariant c.loop-i-test.false

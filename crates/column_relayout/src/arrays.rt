@@ -1,0 +1,70 @@
+//! Arrays as the steps of a plan meet them.
+
+ghost use Rattle.std.specs.Prelude.{◌≡◌, ◌+◌, ◌≤◌, length as list_length};
+
+use column_base::Offset;
+use column_binary::BinaryArray;
+use column_utf8::Utf8Array;
+
+/// Arrays that can be cut.
+pub(crate) trait Column: Drop {
+    ghost use Rattle.column_base.specs.Lists.{sublist};
+    ghost use Rattle.column_relayout.specs.Columns.{RawLists, slots_of, count_of, part_of, IsWellFormed};
+
+    ghost raw: { Self → RawLists };
+
+    /// Tells proofs that the column is well formed.
+    fn known(&self)
+        ensures { IsWellFormed (raw self.now) };
+
+    /// The number of slots.
+    fn count(&self) -> usize
+        ensures slots { result ≡ list_length (slots_of (raw self.now)) }
+        ensures count { result ≡ count_of (raw self.now) };
+
+    /// The `length` slots from slot `offset` on.
+    fn part(self, offset: usize, length: usize) -> Self
+        requires { offset + length ≤ count_of (raw self) }
+        ensures part { raw result ≡ part_of (raw self) offset length }
+        ensures slots { slots_of (raw result) ≡ sublist (slots_of (raw self)) offset length };
+}
+
+#[tactic(auto, using(crate::proofs::ColumnsLemmas::columns))]
+impl<O: Offset> Column for BinaryArray<O> {
+    ghost use Rattle.std.specs.Prelude.{false};
+    ghost use Rattle.column_relayout.specs.Columns.{offset_column};
+
+    ghost raw = { λ array. offset_column O.IS_LARGE false array };
+
+    fn known(&self) {
+        self.known();
+    }
+
+    fn count(&self) -> usize {
+        self.len()
+    }
+
+    fn part(self, offset: usize, length: usize) -> Self {
+        self.sliced(offset, length)
+    }
+}
+
+#[tactic(auto, using(crate::proofs::ColumnsLemmas::columns))]
+impl<O: Offset> Column for Utf8Array<O> {
+    ghost use Rattle.std.specs.Prelude.{true};
+    ghost use Rattle.column_relayout.specs.Columns.{offset_column};
+
+    ghost raw = { λ array. offset_column O.IS_LARGE true array };
+
+    fn known(&self) {
+        self.known();
+    }
+
+    fn count(&self) -> usize {
+        self.len()
+    }
+
+    fn part(self, offset: usize, length: usize) -> Self {
+        self.sliced(offset, length)
+    }
+}
