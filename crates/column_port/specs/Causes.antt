@@ -1,5 +1,5 @@
 -- When a fault is told: this library's own.
-use Rattle.std.specs.Prelude.{ℕ, ◌+◌, ◌-◌, ◌^◌, ◌≤◌, min, Result, Ok, Err, OnErr}
+use Rattle.std.specs.Prelude.{◌≡◌, ℕ, ◌+◌, ◌-◌, ◌^◌, ◌≤◌, min, Result, Ok, Err}
 
 -- One more, where the count stands still at the last number of 64 bits.
 abbrev pub one_more : ℕ → ℕ
@@ -9,12 +9,12 @@ one_more n = min (n + 1) (2 ^ 64 - 1)
 abbrev pub Rose : ℕ → ℕ → Type 0
 Rose before now = one_more before ≤ now
 
--- The count never falls, and a call fails only where it rose.
-pub record HasCause {T E : Type 0} (before now : ℕ) (result : Result T E) : Type 0 where
-  pub later : before ≤ now
-  pub failed : OnErr result (Rose before now)
-
--- The count of faults after a call: each failed call is one more.
+-- The count of faults after a call: one more where it failed, and else as it was.
 abbrev pub counted : {T E : Type 0} → ℕ → Result T E → ℕ
 counted faults (Ok x) = faults
 counted faults (Err e) = one_more faults
+
+-- The count of faults never falls, and counts exactly the calls that failed.
+pub record HasCause {T E : Type 0} (before now : ℕ) (result : Result T E) : Type 0 where
+  pub later : before ≤ now
+  pub counts : now ≡ counted before result

@@ -18,8 +18,8 @@ pub trait Sink {
 
     /// Takes bytes from the front of the piece, and answers how many.
     ///
-    /// The number is at most the piece's length, and for a piece that isn't empty at least 1. It fails only where
-    /// the count of faults rose in this call, and then takes nothing.
+    /// The number is at most the piece's length, and for a piece that isn't empty at least 1. A call
+    /// that fails takes nothing, and is one more fault; no other call is.
     fn write(&mut self, piece: &[u8]) -> Result<usize, Failed>
         ensures bound { WritesAtMost result piece.now }
         ensures bytes { WriteAppends (taken self.old) (taken self.new) result piece.now }

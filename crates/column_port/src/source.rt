@@ -21,8 +21,8 @@ pub trait Source {
     /// Moves bytes from the front of the rest to the front of the piece, and answers how many.
     ///
     /// The number is at most the piece's length. 0 for a piece that isn't empty is the end: over a told rest it comes
-    /// exactly where the rest is empty. It fails only where the count of faults rose in this call, and then leaves
-    /// the rest as it was.
+    /// exactly where the rest is empty. A call that fails leaves the rest as it was, and is one more fault; no other
+    /// call is.
     fn read(&mut self, piece: &mut [u8]) -> Result<usize, Failed>
         ensures bound { ReadsAtMost result piece.new }
         ensures bytes { ReadConsumes (left self.old) (left self.new) result piece.new }

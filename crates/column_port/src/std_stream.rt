@@ -3,13 +3,13 @@
 ghost use Rattle.std.specs.Prelude.{◌≡◌, ◌<◌, length, IfOk, None};
 ghost use Rattle.std.specs.Io.{ReadsAtMost, WritesAtMost};
 ghost use Rattle.std.specs.Io.KnownBytes.{ReadConsumes, WriteAppends};
-ghost use Rattle.column_port.specs.Causes.{HasCause, counted};
+ghost use Rattle.column_port.specs.Causes.{HasCause};
 
 use crate::sink::Sink;
 use crate::source::{Failed, Source};
 use std::io::{Read, Write};
 
-/// A source over a reader of the standard library. It tells no content, and counts its faults.
+/// A source over a reader of the standard library. It tells no content, and counts its own calls that fail.
 #[derive(Drop)]
 pub struct StdSource<R> {
     reader: R,
@@ -37,9 +37,8 @@ impl<R: Read> Source for StdSource<R> {
         ensures bytes { ReadConsumes None None result piece.new }
         ensures cause { HasCause self.old.faults self.new.faults result }
 
-        // What the reader tells, and the count exactly.
+        // What the reader tells.
         ensures reader { ReadConsumes (R.remaining self.old.reader) (R.remaining self.new.reader) result piece.new }
-        ensures faults { self.new.faults ≡ counted self.old.faults result }
     {
         match self.reader.read(piece) {
             Ok(count) => Ok(count),
@@ -51,7 +50,7 @@ impl<R: Read> Source for StdSource<R> {
     }
 }
 
-/// A sink over a writer of the standard library. It tells no content, and counts its faults.
+/// A sink over a writer of the standard library. It tells no content, and counts its own calls that fail.
 #[derive(Drop)]
 pub struct StdSink<W> {
     writer: W,
@@ -80,9 +79,8 @@ impl<W: Write> Sink for StdSink<W> {
         ensures progress { IfOk result (λ count. 0 < length piece.now → 0 < count) }
         ensures cause { HasCause self.old.faults self.new.faults result }
 
-        // What the writer tells, and the count exactly.
+        // What the writer tells.
         ensures writer { WriteAppends (W.contents self.old.writer) (W.contents self.new.writer) result piece.now }
-        ensures faults { self.new.faults ≡ counted self.old.faults result }
     {
         match self.writer.write(piece) {
             Ok(count) if count > 0 || piece.is_empty() => Ok(count),

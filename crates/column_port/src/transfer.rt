@@ -5,7 +5,7 @@ ghost use Rattle.std.specs.declared.option.Option.{Option};
 ghost use Rattle.std.specs.Io.KnownBytes.{Consumes, IsAtEnd, Appends, Keeps};
 ghost use Rattle.column_port.specs.declared.transfer.ReadError.TheVariants.{NoMemory, Fault};
 ghost use Rattle.column_port.specs.Causes.{Rose, HasCause};
-ghost use Rattle.column_port.specs.Streams.{IsWhole, IsWithin, IsPastLimit, TookPrefix, OnFault, OnTooLong, Gave, IsTooLongOrNoMemory};
+ghost use Rattle.column_port.specs.Streams.{IsWhole, IsWithin, IsPastLimit, TookPrefix, OnTooLong, Gave, GaveAtMost, IsTooLongOrNoMemory, counted_reading};
 
 use crate::sink::Sink;
 use crate::source::{Failed, Source};
@@ -83,11 +83,12 @@ fn read_at<S: Source>(source: &mut S, bytes: &mut [u8], at: usize) -> Result<usi
 /// All bytes that the source still has, where they are no more than the limit.
 ///
 /// Each read is handed a piece of at least 10 bytes, or of all bytes that are missing up to one past the limit where
-/// these are fewer. The first read that fails ends the reading, and so does the byte past the limit. Takes linear
-/// time. The memory is doubled as the bytes come, and is never for more than one byte past the limit.
+/// these are fewer. The first read that fails ends the reading, and so does the byte past the limit: at most that one
+/// byte past it leaves the source. Takes linear time. The memory is doubled as the bytes come, and is never for more
+/// than one byte past the limit.
 ///
-/// Refused: `Fault` only where the source's count of faults rose in this call; `TooLong` where the source gave a byte
-/// past the limit; `NoMemory` where no memory was there.
+/// Refused: `Fault` where a read failed, and then the source's count of faults is one more, else as it was; `TooLong`
+/// where the source gave a byte past the limit; `NoMemory` where no memory was there.
 pub fn read_within<S: Source>(
     alloc: Global,
     source: &mut S,
@@ -98,13 +99,13 @@ pub fn read_within<S: Source>(
     ensures within { OnOk result (IsWithin (S.left source.old) limit) }
 
     // Why it stops.
-    ensures fault { OnFault result (Rose (S.faults source.old) (S.faults source.new)) }
     ensures too_long { OnTooLong result (IsPastLimit (S.left source.old) limit) }
     ensures exact { IfSome (S.left source.old) (λ told. limit < length told → (Rose (S.faults source.old) (S.faults source.new) → ⊥) → IsTooLongOrNoMemory result) }
 
     // What left the source, and its count of faults.
     ensures past { OnTooLong result (Gave (S.left source.old) (S.left source.new) (limit + 1)) }
-    ensures stopped { OnErr result ((count : ℕ) × (count ≤ limit + 1) × Gave (S.left source.old) (S.left source.new) count) }
+    ensures stopped { OnErr result (GaveAtMost (S.left source.old) (S.left source.new) (limit + 1)) }
+    ensures counts { S.faults source.new ≡ counted_reading (S.faults source.old) result }
     ensures later { S.faults source.old ≤ S.faults source.new }
 {
     let mut bytes = Vec::new(alloc);
@@ -136,7 +137,8 @@ fn write_from<K: Sink>(sink: &mut K, text: &[u8], at: usize) -> Result<usize, Fa
 /// Writes the text whole.
 ///
 /// Each write is handed all of the text that is left. The first write that fails ends the writing; the sink then took
-/// a part of the text from its front, and its count of faults rose. An empty text writes nothing. Takes no memory.
+/// a part of the text from its front, and its count of faults is one more, else as it was. An empty text writes
+/// nothing. Takes no memory.
 pub fn write_whole<K: Sink>(sink: &mut K, text: &[u8]) -> Result<(), Failed>
     ensures whole { OnOk result (Appends (K.taken sink.old) (K.taken sink.new) text.now) }
     ensures prefix { OnErr result (TookPrefix (K.taken sink.old) (K.taken sink.new) text.now) }
