@@ -1,18 +1,20 @@
 //! The array: its constructors, its readers, and its cheap changes.
 
-ghost use Rattle.std.specs.Prelude.{◌≡◌, ◌+◌, ◌-◌, ◌<◌, ◌≤◌, ◌≤ℤ◌, ◌==◌, not, pos, [], ◌∷◌, true, false, length as list_length, replicate, count_by, option_map, IfSome, None, Some, map, ⊤};
+ghost use Rattle.std.specs.Prelude.{◌≡◌, ◌+◌, ◌<◌, ◌≤◌, ◌≤ℤ◌, ◌==◌, not, pos, [], ◌∷◌, false, length as list_length, map, replicate, count_by, option_map, None, Some};
 ghost use Rattle.std.specs.Option.{option_copied};
 ghost use Rattle.column_base.specs.Answers.{Gives, GivesCause, Answers, ◌or_else◌};
 ghost use Rattle.column_base.specs.DataTypes.{physical_type};
-ghost use Rattle.column_base.specs.Lists.{sublist};
 ghost use Rattle.column_base.specs.Slots.{slot_at, row_of};
-ghost use Rattle.column_offset.specs.Offsets.{AreSoundOffsets, last_of, offsets_fault};
+ghost use Rattle.column_storage.specs.Validity.{AreFlagsOf};
+ghost use Rattle.column_offset.specs.Offsets.{last_of, offsets_fault};
 ghost use Rattle.column_binary.specs.Types.{binary_type, is_binary, type_fault};
-ghost use Rattle.column_binary.specs.Slots.{offset_lists, offset_slots, slot_count, array_fault, sliced_lists, AreSoundLists};
+ghost use Rattle.column_binary.specs.Slots.{offset_lists, offset_slots, slot_count, array_fault, AreSoundLists, IsPart};
 
 use column_base::{ArrowDataType, Cause, Offset, PhysicalType, PolarsError, Splitable};
 use column_offset::{Offsets, OffsetsBuffer, check_offsets, check_offsets_bounds};
-use column_storage::{Bitmap, Buffer, null_count, slice_validity};
+use column_storage::{
+    Bitmap, Buffer, check_validity, is_valid_at, null_count, share_validity, slice_validity,
+};
 use std::alloc::Global;
 use std::marker::Model;
 
@@ -105,17 +107,17 @@ impl<O: Offset> BinaryArray<O> {
     }
 
     /// The same as [`BinaryArray::new`], without a look at the lists.
-    #[tactic(auto, using(crate::proofs::SlotsLemmas::fine))]
     pub fn new_unchecked(
-        _dtype: ArrowDataType,
+        dtype: ArrowDataType,
         offsets: OffsetsBuffer<O>,
         values: Buffer<u8>,
         validity: Option<Bitmap>,
     ) -> Self
-        requires { array_fault (offset_lists offsets values validity) or_else type_fault O.IS_LARGE _dtype ≡ None }
+        requires sound { AreSoundLists (offset_lists offsets values validity) }
+        requires own { type_fault O.IS_LARGE dtype ≡ None }
         ensures { result ≡ offset_lists offsets values validity }
     {
-        offsets.known();
+        let _ = dtype;
         BinaryArray {
             offsets,
             values,
@@ -127,7 +129,7 @@ impl<O: Offset> BinaryArray<O> {
     ///
     /// `NoMemory` where there is none for its one offset.
     pub fn new_empty(alloc: Global, dtype: ArrowDataType) -> Result<Self, PolarsError>
-        requires { is_binary O.IS_LARGE (physical_type dtype) ≡ true }
+        requires { type_fault O.IS_LARGE dtype ≡ None }
         ensures { Answers result None (λ a. a ≡ offset_lists (pos 0 ∷ []) [] None) }
     {
         Ok(BinaryArray {
@@ -141,7 +143,7 @@ impl<O: Offset> BinaryArray<O> {
     ///
     /// `NoMemory` where there is none for their offsets and flags.
     pub fn new_null(alloc: Global, dtype: ArrowDataType, length: usize) -> Result<Self, PolarsError>
-        requires { is_binary O.IS_LARGE (physical_type dtype) ≡ true }
+        requires { type_fault O.IS_LARGE dtype ≡ None }
         ensures { Answers result None (λ a. a ≡ offset_lists (replicate (length + 1) (pos 0)) [] (Some (replicate length false))) }
     {
         if length == usize::MAX {
@@ -163,13 +165,14 @@ impl<O: Offset> BinaryArray<O> {
         Ok(BinaryArray {
             offsets: self.offsets.try_clone(alloc)?,
             values: self.values.try_clone(alloc)?,
-            validity: clone_validity(alloc, self.validity.as_ref())?,
+            validity: share_validity(alloc, self.validity.as_ref())?,
         })
     }
 
     /// The data type of byte strings with offsets of this width.
     pub fn default_dtype() -> ArrowDataType
-        ensures { result ≡ binary_type O.IS_LARGE }
+        ensures dtype { result ≡ binary_type O.IS_LARGE }
+        ensures own { type_fault O.IS_LARGE result ≡ None }
     {
         if O::IS_LARGE {
             ArrowDataType::LargeBinary
@@ -182,10 +185,13 @@ impl<O: Offset> BinaryArray<O> {
 // ---- readers
 
 impl<O: Offset> BinaryArray<O> {
-    /// Tells proofs that the lists are sound, and that the last offset is a value of its type.
+    /// Tells proofs that the lists are sound, that there are as many slots as are counted, and that the last offset,
+    /// and so each, is a value of its type.
+    #[tactic(auto, using(crate::proofs::SlotsLemmas::counts))]
     pub fn known(&self)
         ensures sound { AreSoundLists self.now }
         ensures within_type { last_of self.now.offsets ≤ℤ pos O.GREATEST }
+        ensures count { list_length (offset_slots self.now) ≡ slot_count self.now }
     {
         self.offsets.known();
     }
@@ -195,7 +201,6 @@ impl<O: Offset> BinaryArray<O> {
     pub fn len(&self) -> usize
         ensures slots { result ≡ list_length (offset_slots self.now) }
         ensures count { result ≡ slot_count self.now }
-        ensures sound { AreSoundLists self.now }
     {
         self.offsets.len_proxy()
     }
@@ -209,7 +214,8 @@ impl<O: Offset> BinaryArray<O> {
 
     /// The data type, which is the one of byte strings with offsets of this width.
     pub fn dtype(&self) -> ArrowDataType
-        ensures { result ≡ binary_type O.IS_LARGE }
+        ensures dtype { result ≡ binary_type O.IS_LARGE }
+        ensures own { type_fault O.IS_LARGE result ≡ None }
     {
         Self::default_dtype()
     }
@@ -240,7 +246,7 @@ impl<O: Offset> BinaryArray<O> {
     pub fn null_count(&self) -> usize
         ensures { result ≡ count_by (λ slot. not slot.valid) (offset_slots self.now) }
     {
-        let _slots = self.len();
+        self.known();
         null_count(self.validity())
     }
 
@@ -250,10 +256,7 @@ impl<O: Offset> BinaryArray<O> {
         requires { i < slot_count self.now }
         ensures { result ≡ (slot_at (offset_slots self.now) i).valid }
     {
-        match &self.validity {
-            None => true,
-            Some(bits) => bits.get_bit(i),
-        }
+        is_valid_at(self.validity.as_ref(), i)
     }
 
     /// Whether slot `i` is null.
@@ -297,9 +300,11 @@ impl<O: Offset> BinaryArray<O> {
     /// The lists: the data type, the offsets, the value bytes and the validity. Takes no memory.
     pub fn into_inner(self) -> (ArrowDataType, OffsetsBuffer<O>, Buffer<u8>, Option<Bitmap>)
         ensures dtype { result.0 ≡ binary_type O.IS_LARGE }
+        ensures own { type_fault O.IS_LARGE result.0 ≡ None }
         ensures offsets { result.1 ≡ self.offsets }
         ensures values { result.2 ≡ self.values }
         ensures flags { result.3 ≡ self.flags }
+        ensures sound { AreSoundLists (offset_lists result.1 result.2 result.3) }
     {
         let BinaryArray {
             offsets,
@@ -320,9 +325,7 @@ impl<O: Offset> BinaryArray<O> {
     /// cut off are counted, whichever are fewer; the validity is dropped where all slots of the part are valid.
     pub fn sliced(self, offset: usize, length: usize) -> Self
         requires { offset + length ≤ slot_count self }
-        ensures part { result ≡ sliced_lists self offset length }
-        ensures slots { offset_slots result ≡ sublist (offset_slots self) offset length }
-        ensures sound { AreSoundLists result }
+        ensures { IsPart self offset length result }
     {
         let BinaryArray {
             mut offsets,
@@ -340,9 +343,7 @@ impl<O: Offset> BinaryArray<O> {
     /// The same as [`BinaryArray::sliced`].
     pub fn sliced_unchecked(self, offset: usize, length: usize) -> Self
         requires { offset + length ≤ slot_count self }
-        ensures part { result ≡ sliced_lists self offset length }
-        ensures slots { offset_slots result ≡ sublist (offset_slots self) offset length }
-        ensures sound { AreSoundLists result }
+        ensures { IsPart self offset length result }
     {
         self.sliced(offset, length)
     }
@@ -350,10 +351,9 @@ impl<O: Offset> BinaryArray<O> {
     /// Keeps the `length` slots from slot `offset` on, as [`BinaryArray::sliced`] does.
     pub fn slice(&mut self, offset: usize, length: usize)
         requires { offset + length ≤ slot_count self.old }
-        ensures { self.new ≡ sliced_lists self.old offset length }
+        ensures { IsPart self.old offset length self.new }
     {
-        let _count = self.offsets.len();
-        self.offsets.known();
+        self.known();
         self.offsets.slice(offset, length + 1);
         self.validity = slice_validity(self.validity.take(), offset, length);
     }
@@ -361,15 +361,16 @@ impl<O: Offset> BinaryArray<O> {
     /// The same as [`BinaryArray::slice`].
     pub fn slice_unchecked(&mut self, offset: usize, length: usize)
         requires { offset + length ≤ slot_count self.old }
-        ensures { self.new ≡ sliced_lists self.old offset length }
+        ensures { IsPart self.old offset length self.new }
     {
         self.slice(offset, length);
     }
 }
 
 impl<O: Offset> Splitable for BinaryArray<O> {
-    ghost use Rattle.std.specs.Prelude.{◌-◌};
-    ghost use Rattle.column_binary.specs.Slots.{slot_count, sliced_lists};
+    ghost use Rattle.std.specs.Prelude.{◌≡◌, ◌-◌, None, IfOk};
+    ghost use Rattle.column_base.specs.Answers.{Answers};
+    ghost use Rattle.column_binary.specs.Slots.{slot_count, sliced_lists, IsPart};
 
     ghost slot_count = { λ a. slot_count a };
 
@@ -381,7 +382,10 @@ impl<O: Offset> Splitable for BinaryArray<O> {
         offset <= self.len()
     }
 
-    fn split_at(&self, alloc: Global, offset: usize) -> Result<(Self, Self), PolarsError> {
+    fn split_at(&self, alloc: Global, offset: usize) -> Result<(Self, Self), PolarsError>
+        ensures answer { Answers result None (λ parts. (parts.0 ≡ sliced_lists self.now 0 offset) × (parts.1 ≡ sliced_lists self.now offset (slot_count self.now - offset))) }
+        ensures parts { IfOk result (λ parts. IsPart self.now 0 offset parts.0 × IsPart self.now offset (slot_count self.now - offset) parts.1) }
+    {
         let front = self.try_clone(alloc)?.sliced(0, offset);
         let back = self.try_clone(alloc)?.sliced(offset, self.len() - offset);
         Ok((front, back))
@@ -393,7 +397,7 @@ impl<O: Offset> Splitable for BinaryArray<O> {
 impl<O: Offset> BinaryArray<O> {
     /// The same bytes beside other flags, or all of them valid where no validity is given. Takes no memory.
     pub fn with_validity(self, validity: Option<Bitmap>) -> Self
-        requires { IfSome validity (λ bits. list_length bits ≡ slot_count self) }
+        requires { AreFlagsOf (slot_count self) validity }
         ensures { result ≡ offset_lists self.offsets self.values validity }
     {
         let mut array = self;
@@ -403,7 +407,7 @@ impl<O: Offset> BinaryArray<O> {
 
     /// Puts other flags in place of those that there were, as [`BinaryArray::with_validity`] does.
     pub fn set_validity(&mut self, validity: Option<Bitmap>)
-        requires { IfSome validity (λ bits. list_length bits ≡ slot_count self.old) }
+        requires { AreFlagsOf (slot_count self.old) validity }
         ensures { self.new ≡ offset_lists self.old.offsets self.old.values validity }
     {
         self.validity = validity;
@@ -428,11 +432,7 @@ fn check_lists<O: Offset>(
     ensures { let lists = offset_lists offsets.now values.now (option_copied validity.entry) in GivesCause result (array_fault lists) (λ _. AreSoundLists lists) }
 {
     check_offsets_bounds(offsets.as_slice(), values.len())?;
-    if let Some(bits) = validity {
-        if bits.len() != offsets.len_proxy() {
-            return Err(Cause::ValidityLength);
-        }
-    }
+    check_validity(validity, offsets.len_proxy())?;
     Ok(())
 }
 
@@ -444,15 +444,5 @@ fn is_binary(dtype: ArrowDataType, is_large: bool) -> bool
         PhysicalType::Binary => !is_large,
         PhysicalType::LargeBinary => is_large,
         _ => false,
-    }
-}
-
-/// The same validity, which shares its memory.
-fn clone_validity(alloc: Global, validity: Option<&Bitmap>) -> Result<Option<Bitmap>, PolarsError>
-    ensures { Answers result None (λ copy. copy ≡ option_copied validity.entry) }
-{
-    match validity {
-        Some(bits) => Ok(Some(bits.try_clone(alloc)?)),
-        None => Ok(None),
     }
 }

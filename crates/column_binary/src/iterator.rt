@@ -3,13 +3,13 @@
 ghost use Rattle.std.specs.Prelude.{◌≡◌, length, slice_get, Some};
 ghost use Rattle.std.specs.List.{filter_map};
 ghost use Rattle.column_base.specs.Slots.{values_of, row_of, rows_of};
+ghost use Rattle.column_storage.specs.Iterators.{rows_left, values_left, valid_values_left};
 ghost use Rattle.column_binary.specs.Slots.{offset_slots};
 
 use crate::array::BinaryArray;
 use column_base::Offset;
 use column_storage::{
-    ArrayAccessor, ArrayValuesIter, BitmapIter, Buffer, Listed, NonNullValuesIter, Values,
-    ZipValidity,
+    ArrayAccessor, ArrayValuesIter, BitmapIter, Buffer, NonNullValuesIter, Values, ZipValidity,
 };
 
 /// The bytes of each slot that is left of an array, of null ones too.
@@ -32,7 +32,7 @@ impl<'a, O: Offset + 'static> ArrayAccessor<'a> for BinaryArray<O> {
     ghost shown = { λ bytes. bytes.now };
 
     fn value_unchecked(&'a self, index: usize) -> &'a [u8] {
-        let _slots = BinaryArray::len(self);
+        self.known();
         self.value(index)
     }
 
@@ -47,25 +47,24 @@ impl<'a, O: Offset + 'static> ArrayAccessor<'a> for BinaryArray<O> {
 impl<O: Offset + 'static> BinaryArray<O> {
     /// The rows, first to last, from both ends: the bytes of each slot, or None where it is null.
     pub fn iter(&self) -> ZipValidity<&[u8], BinaryValueIter<'_, O>, BitmapIter<'_>>
-        ensures rows { ⟦<ZipValidity<&'static [u8], ArrayValuesIter<'static, BinaryArray<O>>, BitmapIter<'static>> as Listed>⟧.rest result ≡ rows_of (offset_slots self.now) }
-        ensures ready { ⟦<ZipValidity<&'static [u8], ArrayValuesIter<'static, BinaryArray<O>>, BitmapIter<'static>> as Iterator>⟧.can_next result }
+        ensures { rows_left result ≡ rows_of (offset_slots self.now) }
     {
-        let _slots = BinaryArray::len(self);
+        self.known();
         ZipValidity::new_with_validity(self.values_iter(), self.validity())
     }
 
     /// The bytes of each slot, first to last, from both ends; a null slot has bytes too.
     pub fn values_iter(&self) -> BinaryValueIter<'_, O>
-        ensures { ⟦<ArrayValuesIter<'static, BinaryArray<O>> as Listed>⟧.rest result ≡ values_of (offset_slots self.now) }
+        ensures { values_left result ≡ values_of (offset_slots self.now) }
     {
         ArrayValuesIter::new(self)
     }
 
     /// The bytes of each valid slot, first to last.
     pub fn non_null_values_iter(&self) -> NonNullValuesIter<'_, BinaryArray<O>>
-        ensures { ⟦<NonNullValuesIter<'static, BinaryArray<O>> as Listed>⟧.rest result ≡ filter_map row_of (offset_slots self.now) }
+        ensures { valid_values_left result ≡ filter_map row_of (offset_slots self.now) }
     {
-        let _slots = BinaryArray::len(self);
+        self.known();
         NonNullValuesIter::new(self, self.validity())
     }
 }
@@ -76,8 +75,7 @@ impl<'a, O: Offset + 'static> IntoIterator for &'a BinaryArray<O> {
     type IntoIter = ZipValidity<&'a [u8], BinaryValueIter<'a, O>, BitmapIter<'a>>;
 
     // the rows, first to last
-    ghost into_iter_gives = { λ array it. (⟦<ZipValidity<&'a [u8], ArrayValuesIter<'a, BinaryArray<O>>, BitmapIter<'a>> as Listed>⟧.rest it ≡ rows_of (offset_slots array.now))
-        × ⟦<ZipValidity<&'a [u8], ArrayValuesIter<'a, BinaryArray<O>>, BitmapIter<'a>> as Iterator>⟧.can_next it };
+    ghost into_iter_gives = { λ array it. rows_left it ≡ rows_of (offset_slots array.now) };
 
     fn into_iter(self) -> ZipValidity<&'a [u8], BinaryValueIter<'a, O>, BitmapIter<'a>> {
         self.iter()

@@ -1,10 +1,16 @@
 //! Laws of the lists of an array with offsets: what their slots are, and the law of slices.
 
-ghost use Rattle.std.specs.Prelude.{◌≡◌, ℕ, ◌+◌, ◌-◌, ◌<◌, ◌≤◌, ◌++◌, length};
+ghost use Rattle.std.specs.Prelude.{◌≡◌, ◌↔◌, ℕ, ◌+◌, ◌-◌, ◌<◌, ◌≤◌, ◌++◌, length, None};
 ghost use Rattle.column_base.specs.Lists.{sublist};
 ghost use Rattle.column_base.specs.Slots.{slot_at};
 ghost use Rattle.column_storage.specs.Bits.{flags_of};
-ghost use Rattle.column_binary.specs.Slots.{OffsetLists, slot_count, offset_slots, sliced_lists, AreSoundLists};
+ghost use Rattle.column_offset.specs.Offsets.{AreSoundOffsets};
+ghost use Rattle.column_binary.specs.Slots.{OffsetLists, slot_count, offset_slots, array_fault, sliced_lists, AreSoundLists};
+
+/// Law of sound lists: over sound offsets no fault is found exactly where the lists are sound.
+pub fn no_fault_is_sound()
+    ensures { (lists : OffsetLists) → AreSoundOffsets lists.offsets → (array_fault lists ≡ None) ↔ AreSoundLists lists }
+{}
 
 /// There are as many slots as are counted, one offset more, and as many flags.
 pub fn slots_are_counted()

@@ -1,5 +1,5 @@
 -- Laws of lists whose slots are texts.
-use Rattle.std.proofs.Common.{◌≡◌, ℕ, zero, suc, ◌+◌, ◌-◌, ◌<◌, ◌≤◌, ◌≤ℤ◌, ℤ, pos, Bool, true, false, List, [], ◌∷◌, length, take, drop, Option, Some, None, refl, sym, ◌∙◌, ap, arith}
+use Rattle.std.proofs.Common.{◌≡◌, ℕ, zero, suc, ◌+◌, ◌-◌, ◌<◌, ◌≤◌, ◌≤ℤ◌, ◌↔◌, ℤ, pos, Bool, true, false, List, [], ◌∷◌, length, take, drop, Option, Some, None, refl, sym, ◌∙◌, ap, arith}
 use Rattle.std.specs.Prelude.{int_lt, slice_range}
 use Rattle.std.proofs.Math.Seq.{drop-nil, take-nil}
 use Rattle.std.proofs.lemmas.Int.{ints}
@@ -10,12 +10,15 @@ use Rattle.column_base.specs.Answers.{cause_if, ◌or_else◌}
 use Rattle.column_base.specs.Kinds.{Slot}
 use Rattle.column_base.specs.Slots.{slot_at, values_of}
 use Rattle.column_base.specs.Utf8.{is_well_formed_utf8, IsWellFormedUtf8}
+use Rattle.column_base.proofs.AnswersLemmas.{first_none}
 use Rattle.column_base.proofs.ListsLemmas.{map-sublist}
-use Rattle.column_offset.specs.Offsets.{offsets_fault, nat_of, last_of, bounds_fault}
+use Rattle.column_storage.specs.Validity.{flags_fault}
+use Rattle.column_storage.proofs.FlagsLemmas.{no_flags_fault}
+use Rattle.column_offset.specs.Offsets.{AreSoundOffsets, nat_of, last_of, bounds_fault}
 use Rattle.column_offset.specs.Text.{pieces, are_well_formed_utf8, texts_fault, cut_fault}
-use Rattle.column_offset.proofs.TextLemmas.{all_where_no_fault}
-use Rattle.column_binary.specs.Types.{binary_type, type_fault}
-use Rattle.column_binary.specs.Slots.{OffsetLists, slot_count, offset_slots, flags_fault, array_fault, AreSoundLists, sliced_lists}
+use Rattle.column_offset.proofs.TextLemmas.{all_where_no_fault, no_texts_fault}
+use Rattle.column_binary.specs.Slots.{OffsetLists, slot_count, offset_slots, array_fault, AreSoundLists, sliced_lists}
+use Rattle.column_binary.proofs.SlotsLemmas as binary
 use Rattle.column_binary.proofs.SlotsLemmas.{values_of-offset_slots, offset_slots-sliced, AreSoundLists-sliced, length-offset_slots}
 use Rattle.column_utf8.specs.Texts.{text_array_fault, AreSoundTexts}
 
@@ -71,70 +74,38 @@ AreSoundTexts-flags lists other sound flagged offsets values = record {
 
 -- ---- lists without a fault
 
-first_none : (first second : Option Cause) → (first or_else second) ≡ None → (first ≡ None) × (second ≡ None)
-first_none None second none = (refl, none)
-first_none (Some cause) second none = absurd (cc)
-
-none_after : (fault : Option Cause) → (fault or_else None) ≡ fault
-none_after None = refl
-none_after (Some cause) = refl
-
--- the array's own data type is no fault
-own_type : (large : Bool) → type_fault large (binary_type large) ≡ None
-own_type true = refl
-own_type false = refl
-
 within_bounds : (last : ℤ) (count : ℕ) → last ≤ℤ pos count → cause_if (int_lt (pos count) last) OffsetsExceedValues ≡ None
 within_bounds last count within = let test : int_lt (pos count) last ≡ false = grind (arith, ints) in rw test refl
 
 -- the fault of texts is that of the slots, where the offsets lie within the values
-pub text_fault_is : (lists : OffsetLists) → AreSoundLists lists → cut_fault lists.offsets lists.values ≡ texts_fault (values_of (offset_slots lists))
+pub cut_fault_is : (lists : OffsetLists) → AreSoundLists lists → cut_fault lists.offsets lists.values ≡ texts_fault (values_of (offset_slots lists))
 unfolding cut_fault
-text_fault_is lists sound =
+cut_fault_is lists sound =
     ap (λ (first : Option Cause). first or_else texts_fault (pieces lists.offsets lists.values)) (within_bounds (last_of lists.offsets) (length lists.values) sound.within)
     ∙ ap texts_fault (sym (values_of-offset_slots lists sound))
 
 pub texts_where_none : (lists : OffsetLists) → AreSoundLists lists → texts_fault (values_of (offset_slots lists)) ≡ None → AreSoundTexts lists
 texts_where_none lists sound none = record { sound = sound; texts = all_where_no_fault (values_of (offset_slots lists)) none }
 
-pub texts_where_fine : (lists : OffsetLists) → AreSoundLists lists → cut_fault lists.offsets lists.values ≡ None → AreSoundTexts lists
-texts_where_fine lists sound none = texts_where_none lists sound (sym (text_fault_is lists sound) ∙ none)
-
 bounds_where_fine : (lists : OffsetLists) → cut_fault lists.offsets lists.values ≡ None → bounds_fault lists.offsets (length lists.values) ≡ None
 unfolding cut_fault
 bounds_where_fine lists none = (first_none (bounds_fault lists.offsets (length lists.values)) (texts_fault (pieces lists.offsets lists.values)) none).0
 
--- where the slots are texts, the array of byte strings has the fault of the flags
-array_fault_is : (lists : OffsetLists) (large : Bool) → cut_fault lists.offsets lists.values ≡ None → (array_fault lists or_else type_fault large (binary_type large)) ≡ flags_fault (slot_count lists) lists.flags
-array_fault_is lists large none =
-    ap (λ (type : Option Cause). array_fault lists or_else type) (own_type large)
-    ∙ none_after (array_fault lists)
-    ∙ ap (λ (first : Option Cause). first or_else flags_fault (slot_count lists) lists.flags) (bounds_where_fine lists none)
-
-pub array_refused : (lists : OffsetLists) (large : Bool) (type : Option Cause) (cause : Cause) → cut_fault lists.offsets lists.values ≡ None → (array_fault lists or_else type_fault large (binary_type large)) ≡ Some cause → (text_array_fault lists or_else type) ≡ Some cause
-array_refused lists large type cause none refused =
-    let flags : flags_fault (slot_count lists) lists.flags ≡ Some cause = sym (array_fault_is lists large none) ∙ refused in
-    ap (λ (first : Option Cause). first or_else flags_fault (slot_count lists) lists.flags or_else type) none
-    ∙ ap (λ (second : Option Cause). second or_else type) flags
-
-pub parts_refused : (lists : OffsetLists) (cause : Cause) → offsets_fault lists.offsets ≡ None → cut_fault lists.offsets lists.values ≡ None → (offsets_fault lists.offsets or_else array_fault lists) ≡ Some cause → (offsets_fault lists.offsets or_else text_array_fault lists) ≡ Some cause
-parts_refused lists cause offsets none refused =
+pub sound_where_fine : (lists : OffsetLists) → AreSoundOffsets lists.offsets → text_array_fault lists ≡ None → AreSoundTexts lists
+sound_where_fine lists sound none =
     let flags = flags_fault (slot_count lists) lists.flags in
-    ap (λ (first : Option Cause). first or_else text_array_fault lists) offsets
-    ∙ ap (λ (first : Option Cause). first or_else flags) none
-    ∙ sym (ap (λ (first : Option Cause). first or_else flags) (bounds_where_fine lists none))
-    ∙ sym (ap (λ (first : Option Cause). first or_else array_fault lists) offsets)
-    ∙ refused
+    let parts = first_none (cut_fault lists.offsets lists.values) flags none in
+    let bytes : array_fault lists ≡ None = ap (λ (first : Option Cause). first or_else flags) (bounds_where_fine lists parts.0) ∙ parts.1 in
+    let all = binary.sound_where_fine lists sound bytes in
+    texts_where_none lists all (sym (cut_fault_is lists all) ∙ parts.0)
 
-pub array_fine : (lists : OffsetLists) (large : Bool) (type : Option Cause) → (text_array_fault lists or_else type) ≡ None → (array_fault lists or_else type_fault large (binary_type large)) ≡ None
-array_fine lists large type none =
-    let parts = first_none (cut_fault lists.offsets lists.values) (flags_fault (slot_count lists) lists.flags) (first_none (text_array_fault lists) type none).0 in
-    array_fault_is lists large parts.0 ∙ parts.1
+fine_where_sound : (lists : OffsetLists) → AreSoundTexts lists → text_array_fault lists ≡ None
+fine_where_sound lists sound =
+    ap (λ (first : Option Cause). first or_else flags_fault (slot_count lists) lists.flags) (cut_fault_is lists sound.sound ∙ no_texts_fault (values_of (offset_slots lists)) sound.texts)
+    ∙ (no_flags_fault (slot_count lists) lists.flags).1 sound.sound.flagged
 
-pub texts_fine : (lists : OffsetLists) (type : Option Cause) → AreSoundLists lists → (text_array_fault lists or_else type) ≡ None → AreSoundTexts lists
-texts_fine lists type sound none =
-    let parts = first_none (cut_fault lists.offsets lists.values) (flags_fault (slot_count lists) lists.flags) (first_none (text_array_fault lists) type none).0 in
-    texts_where_fine lists sound parts.0
+pub no_fault_is_sound : (lists : OffsetLists) → AreSoundOffsets lists.offsets → (text_array_fault lists ≡ None) ↔ AreSoundTexts lists
+no_fault_is_sound lists sound = (sound_where_fine lists sound, fine_where_sound lists)
 
 -- ---- slots without bytes
 
@@ -161,3 +132,5 @@ pub ruleset slices = (AreSoundTexts-sliced)
 pub ruleset flags = (AreSoundTexts-flags)
 
 pub ruleset texts = (texts_where_none)
+
+pub ruleset fine = (sound_where_fine)

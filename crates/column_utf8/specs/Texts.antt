@@ -5,7 +5,8 @@ use Rattle.column_base.specs.declared.errors.Cause.{Cause}
 use Rattle.column_base.specs.Answers.{◌or_else◌}
 use Rattle.column_base.specs.Slots.{values_of}
 use Rattle.column_offset.specs.Text.{are_well_formed_utf8, cut_fault}
-use Rattle.column_binary.specs.Slots.{OffsetLists, slot_count, offset_slots, flags_fault, AreSoundLists}
+use Rattle.column_storage.specs.Validity.{flags_fault}
+use Rattle.column_binary.specs.Slots.{OffsetLists, slot_count, offset_slots, AreSoundLists}
 
 -- the first fault of lists whose offsets are sound
 abbrev pub text_array_fault : OffsetLists → Option Cause

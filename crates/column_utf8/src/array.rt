@@ -1,19 +1,20 @@
 //! The array: its constructors, its readers, and its cheap changes.
 
-ghost use Rattle.std.specs.Prelude.{◌≡◌, ◌+◌, ◌-◌, ◌<◌, ◌≤◌, ◌≤ℤ◌, ◌==◌, not, pos, [], ◌∷◌, true, false, length as list_length, replicate, count_by, option_map, IfSome, None, Some, map};
+ghost use Rattle.std.specs.Prelude.{◌≡◌, ◌+◌, ◌<◌, ◌≤◌, ◌≤ℤ◌, ◌==◌, not, pos, [], ◌∷◌, false, length as list_length, map, replicate, count_by, option_map, None, Some, IfSome, MatchOption};
+ghost use Rattle.std.specs.Option.{option_copied};
 ghost use Rattle.column_base.specs.Answers.{Gives, GivesCause, Answers, ◌or_else◌};
 ghost use Rattle.column_base.specs.DataTypes.{physical_type};
-ghost use Rattle.column_base.specs.Lists.{sublist};
 ghost use Rattle.column_base.specs.Slots.{slot_at, row_of};
+ghost use Rattle.column_storage.specs.Validity.{AreFlagsOf};
 ghost use Rattle.column_offset.specs.Offsets.{last_of, offsets_fault};
-ghost use Rattle.column_binary.specs.Slots.{offset_lists, offset_slots, slot_count, sliced_lists};
+ghost use Rattle.column_binary.specs.Slots.{offset_lists, offset_slots, slot_count, IsPart};
 ghost use Rattle.column_utf8.specs.Types.{text_type, is_text, type_fault};
 ghost use Rattle.column_utf8.specs.Texts.{text_array_fault, AreSoundTexts};
 
 use column_base::{ArrowDataType, Cause, Offset, PhysicalType, PolarsError, Splitable, str_of};
 use column_binary::BinaryArray;
-use column_offset::{OffsetsBuffer, check_offsets, check_utf8, try_check_utf8};
-use column_storage::{Bitmap, Buffer};
+use column_offset::{OffsetsBuffer, check_offsets, check_utf8};
+use column_storage::{Bitmap, Buffer, check_validity};
 use std::alloc::Global;
 use std::marker::Model;
 
@@ -57,18 +58,11 @@ impl<O: Offset> Utf8Array<O> {
     ) -> Result<Self, PolarsError>
         ensures { let lists = offset_lists offsets values validity in Gives result (text_array_fault lists or_else type_fault O.IS_LARGE dtype) (λ a. a ≡ lists) }
     {
-        try_check_utf8(offsets.as_slice(), values.as_slice())?;
-        let array = BinaryArray::try_new(
-            BinaryArray::<O>::default_dtype(),
-            offsets,
-            values,
-            validity,
-        )?;
-        let _slots = array.len();
+        check_texts(&offsets, &values, validity.as_ref())?;
         if !is_text(dtype, O::IS_LARGE) {
             return Err(Cause::WrongDataType.into());
         }
-        Ok(Utf8Array::of(array))
+        Ok(Utf8Array::of_lists(offsets, values, validity))
     }
 
     /// The column of these raw lists, whose numbers are looked at too. Takes no memory.
@@ -86,10 +80,9 @@ impl<O: Offset> Utf8Array<O> {
         ensures { let lists = offset_lists (map O.int offsets) values validity in GivesCause result (offsets_fault lists.offsets or_else text_array_fault lists) (λ a. a ≡ lists) }
     {
         check_offsets(offsets.as_slice())?;
-        check_utf8(offsets.as_slice(), values.as_slice())?;
-        let array = BinaryArray::try_from_parts(offsets, values, validity)?;
-        let _slots = array.len();
-        Ok(Utf8Array::of(array))
+        let offsets = OffsetsBuffer::new_unchecked(offsets);
+        check_texts(&offsets, &values, validity.as_ref())?;
+        Ok(Utf8Array::of_lists(offsets, values, validity))
     }
 
     /// The same as [`Utf8Array::try_new`], of lists and a data type without a fault.
@@ -110,33 +103,28 @@ impl<O: Offset> Utf8Array<O> {
 
     /// The same as [`Utf8Array::new`], without a look at the lists.
     pub fn new_unchecked(
-        _dtype: ArrowDataType,
+        dtype: ArrowDataType,
         offsets: OffsetsBuffer<O>,
         values: Buffer<u8>,
         validity: Option<Bitmap>,
     ) -> Self
-        requires { text_array_fault (offset_lists offsets values validity) or_else type_fault O.IS_LARGE _dtype ≡ None }
+        requires sound { AreSoundTexts (offset_lists offsets values validity) }
+        requires own { type_fault O.IS_LARGE dtype ≡ None }
         ensures { result ≡ offset_lists offsets values validity }
     {
-        let array = BinaryArray::new_unchecked(
-            BinaryArray::<O>::default_dtype(),
-            offsets,
-            values,
-            validity,
-        );
-        let _slots = array.len();
-        Utf8Array::of(array)
+        let _ = dtype;
+        Utf8Array::of_lists(offsets, values, validity)
     }
 
     /// The column without slots.
     ///
     /// `NoMemory` where there is none for its one offset.
     pub fn new_empty(alloc: Global, dtype: ArrowDataType) -> Result<Self, PolarsError>
-        requires { is_text O.IS_LARGE (physical_type dtype) ≡ true }
+        requires { type_fault O.IS_LARGE dtype ≡ None }
         ensures { Answers result None (λ a. a ≡ offset_lists (pos 0 ∷ []) [] None) }
     {
         let array = BinaryArray::new_empty(alloc, BinaryArray::<O>::default_dtype())?;
-        let _slots = array.len();
+        array.known();
         Ok(Utf8Array::of(array))
     }
 
@@ -144,11 +132,11 @@ impl<O: Offset> Utf8Array<O> {
     ///
     /// `NoMemory` where there is none for their offsets and flags.
     pub fn new_null(alloc: Global, dtype: ArrowDataType, length: usize) -> Result<Self, PolarsError>
-        requires { is_text O.IS_LARGE (physical_type dtype) ≡ true }
+        requires { type_fault O.IS_LARGE dtype ≡ None }
         ensures { Answers result None (λ a. a ≡ offset_lists (replicate (length + 1) (pos 0)) [] (Some (replicate length false))) }
     {
         let array = BinaryArray::new_null(alloc, BinaryArray::<O>::default_dtype(), length)?;
-        let _slots = array.len();
+        array.known();
         Ok(Utf8Array::of(array))
     }
 
@@ -164,7 +152,8 @@ impl<O: Offset> Utf8Array<O> {
 
     /// The data type of texts with offsets of this width.
     pub fn default_dtype() -> ArrowDataType
-        ensures { result ≡ text_type O.IS_LARGE }
+        ensures dtype { result ≡ text_type O.IS_LARGE }
+        ensures own { type_fault O.IS_LARGE result ≡ None }
     {
         if O::IS_LARGE {
             ArrowDataType::LargeUtf8
@@ -173,7 +162,16 @@ impl<O: Offset> Utf8Array<O> {
         }
     }
 
-    /// Byte strings each of which is UTF-8, as texts.
+    // The column of lists that are texts.
+    fn of_lists(offsets: OffsetsBuffer<O>, values: Buffer<u8>, validity: Option<Bitmap>) -> Self
+        requires { AreSoundTexts (offset_lists offsets values validity) }
+        ensures { result ≡ offset_lists offsets values validity }
+    {
+        let dtype = BinaryArray::<O>::default_dtype();
+        Utf8Array::of(BinaryArray::new_unchecked(dtype, offsets, values, validity))
+    }
+
+    // Byte strings each of which is UTF-8, as texts.
     pub(crate) fn of(array: BinaryArray<O>) -> Self
         requires { AreSoundTexts array }
         ensures same { result ≡ array }
@@ -193,11 +191,20 @@ impl<O: Offset> Utf8Array<O> {
         self.array.known();
     }
 
+    /// Tells proofs that the lists are sound and each slot is UTF-8, that there are as many slots as are counted, and
+    /// that the last offset, and so each, is a value of its type.
+    pub fn known(&self)
+        ensures sound { AreSoundTexts self.now }
+        ensures within_type { last_of self.now.offsets ≤ℤ pos O.GREATEST }
+        ensures count { list_length (offset_slots self.now) ≡ slot_count self.now }
+    {
+        self.array.known();
+    }
+
     /// The number of slots.
     pub fn len(&self) -> usize
         ensures slots { result ≡ list_length (offset_slots self.now) }
         ensures count { result ≡ slot_count self.now }
-        ensures sound { AreSoundTexts self.now }
     {
         self.array.len()
     }
@@ -211,7 +218,8 @@ impl<O: Offset> Utf8Array<O> {
 
     /// The data type, which is the one of texts with offsets of this width.
     pub fn dtype(&self) -> ArrowDataType
-        ensures { result ≡ text_type O.IS_LARGE }
+        ensures dtype { result ≡ text_type O.IS_LARGE }
+        ensures own { type_fault O.IS_LARGE result ≡ None }
     {
         Self::default_dtype()
     }
@@ -266,7 +274,7 @@ impl<O: Offset> Utf8Array<O> {
         requires { i < slot_count self.now }
         ensures { result.now ≡ (slot_at (offset_slots self.now) i).bytes }
     {
-        let _slots = self.len();
+        self.known();
         str_of(self.array.value(i))
     }
 
@@ -293,17 +301,19 @@ impl<O: Offset> Utf8Array<O> {
     /// The lists: the data type, the offsets, the value bytes and the validity. Takes no memory.
     pub fn into_inner(self) -> (ArrowDataType, OffsetsBuffer<O>, Buffer<u8>, Option<Bitmap>)
         ensures dtype { result.0 ≡ text_type O.IS_LARGE }
+        ensures own { type_fault O.IS_LARGE result.0 ≡ None }
         ensures offsets { result.1 ≡ self.offsets }
         ensures values { result.2 ≡ self.values }
         ensures flags { result.3 ≡ self.flags }
+        ensures sound { AreSoundTexts (offset_lists result.1 result.2 result.3) }
     {
         let Utf8Array { array } = self;
         let (_, offsets, values, validity) = array.into_inner();
         (Self::default_dtype(), offsets, values, validity)
     }
 
-    /// The same slots as byte strings, lent.
-    pub(crate) fn as_binary(&self) -> &BinaryArray<O>
+    /// The same slots as byte strings, lent. Takes no memory.
+    pub fn as_binary(&self) -> &BinaryArray<O>
         ensures { result.now ≡ self.now }
     {
         &self.array
@@ -320,9 +330,8 @@ impl<O: Offset> Utf8Array<O> {
     /// cut off are counted, whichever are fewer; the validity is dropped where all slots of the part are valid.
     pub fn sliced(self, offset: usize, length: usize) -> Self
         requires { offset + length ≤ slot_count self }
-        ensures part { result ≡ sliced_lists self offset length }
-        ensures slots { offset_slots result ≡ sublist (offset_slots self) offset length }
-        ensures sound { AreSoundTexts result }
+        ensures part { IsPart self offset length result }
+        ensures texts { AreSoundTexts result }
     {
         let Utf8Array { array } = self;
         Utf8Array::of(array.sliced(offset, length))
@@ -331,9 +340,8 @@ impl<O: Offset> Utf8Array<O> {
     /// The same as [`Utf8Array::sliced`].
     pub fn sliced_unchecked(self, offset: usize, length: usize) -> Self
         requires { offset + length ≤ slot_count self }
-        ensures part { result ≡ sliced_lists self offset length }
-        ensures slots { offset_slots result ≡ sublist (offset_slots self) offset length }
-        ensures sound { AreSoundTexts result }
+        ensures part { IsPart self offset length result }
+        ensures texts { AreSoundTexts result }
     {
         self.sliced(offset, length)
     }
@@ -341,7 +349,8 @@ impl<O: Offset> Utf8Array<O> {
     /// Keeps the `length` slots from slot `offset` on, as [`Utf8Array::sliced`] does.
     pub fn slice(&mut self, offset: usize, length: usize)
         requires { offset + length ≤ slot_count self.old }
-        ensures { self.new ≡ sliced_lists self.old offset length }
+        ensures part { IsPart self.old offset length self.new }
+        ensures texts { AreSoundTexts self.new }
     {
         self.array.slice(offset, length);
     }
@@ -349,15 +358,18 @@ impl<O: Offset> Utf8Array<O> {
     /// The same as [`Utf8Array::slice`].
     pub fn slice_unchecked(&mut self, offset: usize, length: usize)
         requires { offset + length ≤ slot_count self.old }
-        ensures { self.new ≡ sliced_lists self.old offset length }
+        ensures part { IsPart self.old offset length self.new }
+        ensures texts { AreSoundTexts self.new }
     {
         self.slice(offset, length);
     }
 }
 
 impl<O: Offset> Splitable for Utf8Array<O> {
-    ghost use Rattle.std.specs.Prelude.{◌-◌};
-    ghost use Rattle.column_binary.specs.Slots.{slot_count, sliced_lists};
+    ghost use Rattle.std.specs.Prelude.{◌≡◌, ◌-◌, ◌≤◌, None, OnOk};
+    ghost use Rattle.column_base.specs.Answers.{Answers};
+    ghost use Rattle.column_binary.specs.Slots.{slot_count, sliced_lists, IsPart};
+    ghost use Rattle.column_utf8.specs.Texts.{AreSoundTexts};
 
     ghost slot_count = { λ a. slot_count a };
 
@@ -369,7 +381,12 @@ impl<O: Offset> Splitable for Utf8Array<O> {
         offset <= self.len()
     }
 
-    fn split_at(&self, alloc: Global, offset: usize) -> Result<(Self, Self), PolarsError> {
+    fn split_at(&self, alloc: Global, offset: usize) -> Result<(Self, Self), PolarsError>
+        requires { offset ≤ slot_count self.now }
+        ensures answer { Answers result None (λ parts. (parts.0 ≡ sliced_lists self.now 0 offset) × (parts.1 ≡ sliced_lists self.now offset (slot_count self.now - offset))) }
+        ensures parts { OnOk result (λ parts. IsPart self.now 0 offset parts.0 × IsPart self.now offset (slot_count self.now - offset) parts.1) }
+        ensures texts { OnOk result (λ parts. AreSoundTexts parts.0 × AreSoundTexts parts.1) }
+    {
         let front = self.try_clone(alloc)?.sliced(0, offset);
         let back = self.try_clone(alloc)?.sliced(offset, self.len() - offset);
         Ok((front, back))
@@ -382,7 +399,7 @@ impl<O: Offset> Splitable for Utf8Array<O> {
 impl<O: Offset> Utf8Array<O> {
     /// The same bytes beside other flags, or all of them valid where no validity is given. Takes no memory.
     pub fn with_validity(self, validity: Option<Bitmap>) -> Self
-        requires { IfSome validity (λ bits. list_length bits ≡ slot_count self) }
+        requires { AreFlagsOf (slot_count self) validity }
         ensures { result ≡ offset_lists self.offsets self.values validity }
     {
         let mut array = self;
@@ -392,11 +409,11 @@ impl<O: Offset> Utf8Array<O> {
 
     /// Puts other flags in place of those that there were, as [`Utf8Array::with_validity`] does.
     pub fn set_validity(&mut self, validity: Option<Bitmap>)
-        requires { IfSome validity (λ bits. list_length bits ≡ slot_count self.old) }
+        requires { AreFlagsOf (slot_count self.old) validity }
         ensures { self.new ≡ offset_lists self.old.offsets self.old.values validity }
     {
         self.array.set_validity(validity);
-        let _slots = self.array.len();
+        self.array.known();
     }
 
     /// The validity, where one was given. All slots are valid then.
@@ -405,9 +422,41 @@ impl<O: Offset> Utf8Array<O> {
         ensures rest { self.new ≡ offset_lists self.old.offsets self.old.values None }
     {
         let validity = self.array.take_validity();
-        let _slots = self.array.len();
+        self.array.known();
         validity
     }
+}
+
+#[tactic(auto, using(crate::proofs::TextsLemmas::flags))]
+impl<O: Offset> Utf8Array<O> {
+    /// Puts what `f` makes of the validity in its place. Where no validity is given, `f` is not called, and the column
+    /// stays as it is.
+    ///
+    /// `f` keeps the length of a validity.
+    pub fn apply_validity<F: FnOnce(Bitmap) -> Bitmap>(&mut self, f: F)
+        requires { IfSome self.old.flags (λ flags. F.pre f flags × ((new : _) → F.post f flags new → list_length new ≡ list_length flags)) }
+        ensures { MatchOption self.old.flags (self.new ≡ self.old) (λ flags. (new : _) × F.post f flags new × (self.new ≡ offset_lists self.old.offsets self.old.values (Some new))) }
+    {
+        self.known();
+        if let Some(bits) = self.take_validity() {
+            self.set_validity(Some(f(bits)));
+        }
+    }
+}
+
+/// Whether lists with sound offsets are texts: the first that stands of `OffsetsExceedValues`, `InvalidUtf8`,
+/// `CharBoundary` and `ValidityLength`.
+#[tactic(auto, using(crate::proofs::TextsLemmas::fine))]
+fn check_texts<O: Offset>(
+    offsets: &OffsetsBuffer<O>,
+    values: &Buffer<u8>,
+    validity: Option<&Bitmap>,
+) -> Result<(), Cause>
+    ensures { let lists = offset_lists offsets.now values.now (option_copied validity.entry) in GivesCause result (text_array_fault lists) (λ _. AreSoundTexts lists) }
+{
+    check_utf8(offsets.as_slice(), values.as_slice())?;
+    check_validity(validity, offsets.len_proxy())?;
+    Ok(())
 }
 
 /// Whether a data type is laid out as texts with offsets of 32 bits, or of 64 where `is_large`.

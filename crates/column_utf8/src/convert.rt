@@ -1,7 +1,7 @@
 //! Byte strings into texts, and back. No byte is moved.
 
 ghost use Rattle.std.specs.Prelude.{◌≡◌, None, ⊤};
-ghost use Rattle.column_base.specs.Answers.{Gives, Answers, GivesBack};
+ghost use Rattle.column_base.specs.Answers.{Answers, GivesCause, GivesBack};
 ghost use Rattle.column_base.specs.Slots.{values_of};
 ghost use Rattle.column_offset.specs.Text.{texts_fault};
 ghost use Rattle.column_binary.specs.Slots.{offset_slots, AreSoundLists};
@@ -9,7 +9,7 @@ ghost use Rattle.column_binary.specs.Slots.{offset_slots, AreSoundLists};
 use crate::array::Utf8Array;
 use column_base::{Cause, Offset, PolarsError};
 use column_binary::BinaryArray;
-use column_offset::try_check_utf8;
+use column_offset::check_utf8;
 use std::alloc::Global;
 
 impl<O: Offset> Utf8Array<O> {
@@ -42,21 +42,18 @@ pub fn try_into_utf8<O: Offset>(
 ) -> Result<Utf8Array<O>, (BinaryArray<O>, Cause)>
     ensures { GivesBack result (texts_fault (values_of (offset_slots array))) (λ texts. texts ≡ array) (λ back. back ≡ array) }
 {
-    let _slots = array.len();
-    match check_texts(&array) {
+    array.known();
+    match check_slots(&array) {
         Ok(()) => Ok(Utf8Array::of(array)),
-        Err(PolarsError::ComputeError(cause) | PolarsError::OutOfBounds(cause)) => {
-            Err((array, cause))
-        }
-        Err(PolarsError::NoMemory) => unreachable!(),
+        Err(cause) => Err((array, cause)),
     }
 }
 
 /// Whether each slot is UTF-8.
-fn check_texts<O: Offset>(array: &BinaryArray<O>) -> Result<(), PolarsError>
-    ensures { Gives result (texts_fault (values_of (offset_slots array.now))) (λ _. ⊤) }
+fn check_slots<O: Offset>(array: &BinaryArray<O>) -> Result<(), Cause>
+    ensures { GivesCause result (texts_fault (values_of (offset_slots array.now))) (λ _. ⊤) }
 {
-    let _slots = array.len();
-    let checked = try_check_utf8(array.offsets().as_slice(), array.values().as_slice());
+    array.known();
+    let checked = check_utf8(array.offsets().as_slice(), array.values().as_slice());
     checked
 }
