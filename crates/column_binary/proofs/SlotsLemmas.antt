@@ -1,5 +1,5 @@
 -- Laws of slots with offsets: the values of a part are a part of the values, and what follows of flags beside them.
-use Rattle.std.proofs.Common.{◌≡◌, ◌↔◌, ℕ, zero, suc, ◌+◌, ◌-◌, ◌<◌, ◌≤◌, ◌≤ℤ◌, ℤ, pos, Bool, true, false, not, List, [], ◌∷◌, ◌++◌, length, take, drop, get_or, slice_get, slice_range, Option, Some, None, refl, sym, ◌∙◌, ap, subst, arith, count_by}
+use Rattle.std.proofs.Common.{◌≡◌, ◌↔◌, ℕ, zero, suc, ◌+◌, ◌-◌, ◌<◌, ◌≤◌, ◌≤ℤ◌, ℤ, pos, false, not, List, [], ◌∷◌, ◌++◌, length, take, drop, get_or, slice_range, Option, None, refl, sym, ◌∙◌, ap, subst, arith, count_by}
 use Rattle.std.specs.Prelude.{int_lt}
 use Rattle.std.specs.List.{filter_map}
 use Rattle.std.proofs.lemmas.Int.{ints}

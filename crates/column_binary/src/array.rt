@@ -1,6 +1,6 @@
 //! The array: its constructors, its readers, and its cheap changes.
 
-ghost use Rattle.std.specs.Prelude.{◌≡◌, ◌+◌, ◌<◌, ◌≤◌, ◌≤ℤ◌, ◌==◌, not, pos, [], ◌∷◌, false, length as list_length, map, replicate, count_by, option_map, None, Some};
+ghost use Rattle.std.specs.Prelude.{◌≡◌, ◌+◌, ◌^◌, ◌<◌, ◌≤◌, ◌≤ℤ◌, ◌==◌, not, pos, [], ◌∷◌, false, length as list_length, map, replicate, count_by, option_map, None, Some};
 ghost use Rattle.std.specs.Option.{option_copied};
 ghost use Rattle.column_base.specs.Answers.{Gives, GivesCause, Answers, ◌or_else◌};
 ghost use Rattle.column_base.specs.DataTypes.{physical_type};
@@ -185,15 +185,17 @@ impl<O: Offset> BinaryArray<O> {
 // ---- readers
 
 impl<O: Offset> BinaryArray<O> {
-    /// Tells proofs that the lists are sound, that there are as many slots as are counted, and that the last offset,
-    /// and so each, is a value of its type.
+    /// Tells proofs that the lists are sound, that there are as many slots as are counted, that one more is a `usize`,
+    /// and that the last offset, and so each, is a value of its type.
     #[tactic(auto, using(crate::proofs::SlotsLemmas::counts))]
     pub fn known(&self)
         ensures sound { AreSoundLists self.now }
         ensures within_type { last_of self.now.offsets ≤ℤ pos O.GREATEST }
         ensures count { list_length (offset_slots self.now) ≡ slot_count self.now }
+        ensures fits { slot_count self.now + 1 < 2 ^ 64 }
     {
         self.offsets.known();
+        let _count = self.offsets.len();
     }
 
     /// The number of slots.
@@ -368,7 +370,7 @@ impl<O: Offset> BinaryArray<O> {
 }
 
 impl<O: Offset> Splitable for BinaryArray<O> {
-    ghost use Rattle.std.specs.Prelude.{◌≡◌, ◌-◌, None, IfOk};
+    ghost use Rattle.std.specs.Prelude.{◌≡◌, ◌-◌, ◌≤◌, None, IfOk};
     ghost use Rattle.column_base.specs.Answers.{Answers};
     ghost use Rattle.column_binary.specs.Slots.{slot_count, sliced_lists, IsPart};
 
@@ -383,6 +385,7 @@ impl<O: Offset> Splitable for BinaryArray<O> {
     }
 
     fn split_at(&self, alloc: Global, offset: usize) -> Result<(Self, Self), PolarsError>
+        requires { offset ≤ slot_count self.now }
         ensures answer { Answers result None (λ parts. (parts.0 ≡ sliced_lists self.now 0 offset) × (parts.1 ≡ sliced_lists self.now offset (slot_count self.now - offset))) }
         ensures parts { IfOk result (λ parts. IsPart self.now 0 offset parts.0 × IsPart self.now offset (slot_count self.now - offset) parts.1) }
     {

@@ -1,5 +1,5 @@
 -- A slice of sound lists is sound, and its slots are those that it names.
-use Rattle.std.proofs.Common.{◌≡◌, ◌+◌, ◌≤◌, subst, sym}
+use Rattle.std.proofs.Common.{◌+◌, ◌≤◌, subst, sym}
 use Rattle.column_binary.specs.Slots.{OffsetLists, offset_lists, slot_count, sliced_lists, IsPart}
 use Rattle.column_binary.proofs.SlotsLemmas.{AreSoundLists-sliced, part_is}
 use Rattle.column_binary.proofs.array.BinaryArray.sliced.Goals as goal

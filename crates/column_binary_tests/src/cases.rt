@@ -1,0 +1,58 @@
+//! Arrays for the tests.
+
+use column_base::{ArrowDataType, Offset, PolarsError};
+use column_binary::BinaryArray;
+use column_offset::OffsetsBuffer;
+use column_storage::{Bitmap, Buffer};
+use std::alloc::Global;
+
+/// Flags of slots, where there are any.
+pub type Flags<'a> = Option<&'a [bool]>;
+
+/// The value bytes of the four slots.
+pub const BYTES: &[u8] = b"xabcdeyz";
+
+pub fn buffer<T: Copy>(alloc: Global, values: &[T]) -> Result<Buffer<T>, PolarsError> {
+    Buffer::from_vec(alloc, Vec::from_slice(alloc, values)?)
+}
+
+pub fn bitmap(alloc: Global, flags: Flags<'_>) -> Result<Option<Bitmap>, PolarsError> {
+    match flags {
+        Some(flags) => Ok(Some(Bitmap::from_bools(alloc, flags)?)),
+        None => Ok(None),
+    }
+}
+
+/// The array of these lists.
+pub fn array<O: Offset>(
+    alloc: Global,
+    offsets: &[O],
+    values: &[u8],
+    flags: Flags<'_>,
+    dtype: ArrowDataType,
+) -> Result<BinaryArray<O>, PolarsError> {
+    let offsets = OffsetsBuffer::try_from_buffer(buffer(alloc, offsets)?)?;
+    BinaryArray::try_new(
+        dtype,
+        offsets,
+        buffer(alloc, values)?,
+        bitmap(alloc, flags)?,
+    )
+}
+
+/// Four slots: "ab", null over "c", "" and "de"; a byte stands before the first and two after the last.
+pub fn four(alloc: Global) -> Result<BinaryArray<i32>, PolarsError> {
+    let flags: Flags<'_> = Some(&[true, false, true, true]);
+    array(alloc, &[1, 3, 4, 4, 6], BYTES, flags, ArrowDataType::Binary)
+}
+
+/// The same four slots in the large layout, all of them valid.
+pub fn four_large(alloc: Global) -> Result<BinaryArray<i64>, PolarsError> {
+    array(
+        alloc,
+        &[1, 3, 4, 4, 6],
+        BYTES,
+        None,
+        ArrowDataType::LargeBinary,
+    )
+}
