@@ -91,13 +91,19 @@ bounds_where_fine : (lists : OffsetLists) → cut_fault lists.offsets lists.valu
 unfolding cut_fault
 bounds_where_fine lists none = (first_none (bounds_fault lists.offsets (length lists.values)) (texts_fault (pieces lists.offsets lists.values)) none).0
 
-pub sound_where_fine : (lists : OffsetLists) → AreSoundOffsets lists.offsets → text_array_fault lists ≡ None → AreSoundTexts lists
+sound_where_fine : (lists : OffsetLists) → AreSoundOffsets lists.offsets → text_array_fault lists ≡ None → AreSoundTexts lists
 sound_where_fine lists sound none =
     let flags = flags_fault (slot_count lists) lists.flags in
     let parts = first_none (cut_fault lists.offsets lists.values) flags none in
     let bytes : array_fault lists ≡ None = ap (λ (first : Option Cause). first or_else flags) (bounds_where_fine lists parts.0) ∙ parts.1 in
     let all = binary.sound_where_fine lists sound bytes in
     texts_where_none lists all (sym (cut_fault_is lists all) ∙ parts.0)
+
+-- the faults of texts and of flags are all that there are
+pub fine : (lists : OffsetLists) → AreSoundOffsets lists.offsets → cut_fault lists.offsets lists.values ≡ None → flags_fault (slot_count lists) lists.flags ≡ None → (text_array_fault lists ≡ None) × AreSoundTexts lists
+fine lists sound texts flags =
+    let none : text_array_fault lists ≡ None = ap (λ (first : Option Cause). first or_else flags_fault (slot_count lists) lists.flags) texts ∙ flags in
+    (none, sound_where_fine lists sound none)
 
 fine_where_sound : (lists : OffsetLists) → AreSoundTexts lists → text_array_fault lists ≡ None
 fine_where_sound lists sound =
@@ -132,5 +138,3 @@ pub ruleset slices = (AreSoundTexts-sliced)
 pub ruleset flags = (AreSoundTexts-flags)
 
 pub ruleset texts = (texts_where_none)
-
-pub ruleset fine = (sound_where_fine)

@@ -183,14 +183,6 @@ impl<O: Offset> Utf8Array<O> {
 // ---- readers
 
 impl<O: Offset> Utf8Array<O> {
-    /// Tells proofs that the lists are sound, that each slot is UTF-8, and that the last offset is a value of its type.
-    pub fn known(&self)
-        ensures sound { AreSoundTexts self.now }
-        ensures within_type { last_of self.now.offsets ≤ℤ pos O.GREATEST }
-    {
-        self.array.known();
-    }
-
     /// Tells proofs that the lists are sound and each slot is UTF-8, that there are as many slots as are counted, and
     /// that the last offset, and so each, is a value of its type.
     pub fn known(&self)
@@ -366,7 +358,7 @@ impl<O: Offset> Utf8Array<O> {
 }
 
 impl<O: Offset> Splitable for Utf8Array<O> {
-    ghost use Rattle.std.specs.Prelude.{◌≡◌, ◌-◌, ◌≤◌, None, OnOk};
+    ghost use Rattle.std.specs.Prelude.{◌≡◌, ◌-◌, ◌≤◌, None, IfOk};
     ghost use Rattle.column_base.specs.Answers.{Answers};
     ghost use Rattle.column_binary.specs.Slots.{slot_count, sliced_lists, IsPart};
     ghost use Rattle.column_utf8.specs.Texts.{AreSoundTexts};
@@ -384,8 +376,8 @@ impl<O: Offset> Splitable for Utf8Array<O> {
     fn split_at(&self, alloc: Global, offset: usize) -> Result<(Self, Self), PolarsError>
         requires { offset ≤ slot_count self.now }
         ensures answer { Answers result None (λ parts. (parts.0 ≡ sliced_lists self.now 0 offset) × (parts.1 ≡ sliced_lists self.now offset (slot_count self.now - offset))) }
-        ensures parts { OnOk result (λ parts. IsPart self.now 0 offset parts.0 × IsPart self.now offset (slot_count self.now - offset) parts.1) }
-        ensures texts { OnOk result (λ parts. AreSoundTexts parts.0 × AreSoundTexts parts.1) }
+        ensures parts { IfOk result (λ parts. IsPart self.now 0 offset parts.0 × IsPart self.now offset (slot_count self.now - offset) parts.1) }
+        ensures texts { IfOk result (λ parts. AreSoundTexts parts.0 × AreSoundTexts parts.1) }
     {
         let front = self.try_clone(alloc)?.sliced(0, offset);
         let back = self.try_clone(alloc)?.sliced(offset, self.len() - offset);
@@ -446,7 +438,6 @@ impl<O: Offset> Utf8Array<O> {
 
 /// Whether lists with sound offsets are texts: the first that stands of `OffsetsExceedValues`, `InvalidUtf8`,
 /// `CharBoundary` and `ValidityLength`.
-#[tactic(auto, using(crate::proofs::TextsLemmas::fine))]
 fn check_texts<O: Offset>(
     offsets: &OffsetsBuffer<O>,
     values: &Buffer<u8>,
