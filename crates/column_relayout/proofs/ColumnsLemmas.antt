@@ -3,16 +3,15 @@ use Rattle.std.proofs.Common.{◌≡◌, ℕ, ◌+◌, ◌≤◌, ℤ, pos, ◌�
 use Rattle.std.proofs.Math.Seq.{take-length}
 use Rattle.column_base.specs.Integers.{greatest_offset}
 use Rattle.column_base.specs.Lists.{sublist}
-use Rattle.column_base.proofs.AnswersLemmas.{first_none, none_after}
-use Rattle.column_base.proofs.ListsLemmas.{length-sublist}
+use Rattle.column_base.proofs.AnswersLemmas.{first_none}
 use Rattle.column_storage.specs.Bits.{flags_of}
 use Rattle.column_offset.specs.Offsets.{last_of, offsets_fault}
 use Rattle.column_offset.proofs.OffsetsLemmas.{sound_where_no_fault as sound_offsets}
-use Rattle.column_binary.specs.Types.{binary_type, type_fault}
-use Rattle.column_binary.specs.Slots.{OffsetLists, offset_lists, slot_count, offset_slots, sliced_lists, array_fault, AreSoundLists}
-use Rattle.column_binary.proofs.SlotsLemmas.{sound_where_fine, length-offset_slots, offsets_are, flags_are, flags-sliced, slices_are_one}
+use Rattle.column_binary.specs.Slots.{OffsetLists, offset_lists, slot_count, sliced_lists, array_fault, AreSoundLists}
+use Rattle.column_binary.proofs.SlotsLemmas as binary
+use Rattle.column_binary.proofs.SlotsLemmas.{length-offset_slots, offsets_are, flags_are, flags-sliced, slices_are_one}
 use Rattle.column_utf8.specs.Texts.{text_array_fault, AreSoundTexts}
-use Rattle.column_utf8.proofs.TextsLemmas.{array_fine}
+use Rattle.column_utf8.proofs.TextsLemmas as texts
 use Rattle.column_relayout.specs.Kinds.{is_text, is_binary, text_kind, binary_kind, offset_kind}
 use Rattle.column_relayout.specs.Columns.{RawLists, offset_column, column_kind, slots_of, count_of, parts_fault, AreSound, IsWellFormed, part_of, retyped}
 use Rattle.column_relayout.specs.Cuts.{as_read}
@@ -59,10 +58,10 @@ texts_well_formed large lists sound within = record {
 pub sound_where_no_fault : (column : RawLists) → parts_fault column ≡ None → AreSound column
 sound_where_no_fault (offset_column large false lists) none =
     let both = first_none (offsets_fault lists.offsets) (array_fault lists) none in
-    sound_where_fine lists None (sound_offsets lists.offsets both.0) (none_after (array_fault lists) ∙ both.1)
+    (binary.no_fault_is_sound lists (sound_offsets lists.offsets both.0)).0 both.1
 sound_where_no_fault (offset_column large true lists) none =
     let both = first_none (offsets_fault lists.offsets) (text_array_fault lists) none in
-    sound_where_fine lists (type_fault large (binary_type large)) (sound_offsets lists.offsets both.0) (array_fine lists large None (none_after (text_array_fault lists) ∙ both.1))
+    ((texts.no_fault_is_sound lists (sound_offsets lists.offsets both.0)).0 both.1).sound
 
 -- ---- parts
 
@@ -70,11 +69,7 @@ pub count-slots : (column : RawLists) → AreSound column → length (slots_of c
 count-slots (offset_column large text lists) sound = length-offset_slots lists sound
 
 pub count-part : (column : RawLists) (from n : ℕ) → AreSound column → from + n ≤ count_of column → count_of (part_of column from n) ≡ n
-unfolding sliced_lists
-count-part (offset_column large text lists) from n sound within =
-    let all = offsets_are lists sound in
-    let size = length-sublist lists.offsets from (n + 1) (omega arith) in
-    omega arith
+count-part (offset_column large text lists) from n sound within = binary.slot_count-sliced lists from n sound within
 
 pub part-part : (column : RawLists) (from n start m : ℕ) → AreSound column → from + n ≤ count_of column → start + m ≤ n → part_of (part_of column from n) start m ≡ part_of column (from + start) m
 part-part (offset_column large text lists) from n start m sound within inside = ap (offset_column large text) (slices_are_one lists from n start m sound within inside)
@@ -102,7 +97,6 @@ as_read-whole (offset_column large text lists) sound =
     ∙ ap (λ (bits : List Bool). offset_column large text (offset_lists lists.offsets lists.values (Some bits))) read
 
 pub slots-as_read : (column : RawLists) → slots_of (as_read column) ≡ slots_of column
-unfolding offset_slots
-slots-as_read (offset_column large text lists) = refl
+slots-as_read (offset_column large text lists) = binary.same_slots (offset_lists lists.offsets lists.values (Some (flags_of (slot_count lists) lists.flags))) lists refl refl refl
 
 pub ruleset columns = (bytes_well_formed, texts_well_formed)
