@@ -1,4 +1,4 @@
--- What a JSON value says as a document: raw parts and a plan, or its fault. This library's own.
+-- What bytes, and a JSON value, say as a document: raw parts and a plan, or its fault. This library's own.
 use Rattle.std.specs.Prelude.{◌≡◌, ℕ, Bool, true, false, if◌then◌else◌, List, [], ◌∷◌, find, Option, None, Some, option_map, option_and_then, Result, Ok, Err, ⊤}
 use Rattle.std.specs.Option.{ok_or}
 use Rattle.std.specs.Str.{bytes_eq}
@@ -13,12 +13,13 @@ use Rattle.column_relayout.specs.Kinds.{kind_of, kind_name}
 use Rattle.column_document.specs.declared.field.Field.{Field}
 use Rattle.column_document.specs.declared.field.Field.TheVariants as field
 use Rattle.column_document.specs.declared.field.DocFault.{DocFault}
-use Rattle.column_document.specs.declared.field.DocFault.TheVariants.{BadField, Unbuilt}
+use Rattle.column_document.specs.declared.field.DocFault.TheVariants.{Json, BadField, Unbuilt}
 use Rattle.column_document.specs.declared.field.DocError.{DocError}
 use Rattle.column_document.specs.declared.field.DocError.TheVariants as error
 use Rattle.column_document.specs.declared.from_json.Unread.{Unread}
 use Rattle.column_document.specs.declared.from_json.Unread.TheVariants as unread
 use Rattle.column_document.specs.Fields.{field_name}
+use Rattle.column_document.specs.Json.{json_of}
 use Rattle.column_document.specs.Values.{list_of, i32_of, i64_of, hex_of}
 use Rattle.column_document.specs.Steps.{step_of}
 use Rattle.column_document.specs.Unbuilt.{has_unbuilt_word}
@@ -31,6 +32,7 @@ ReadsFieldsAs seen (Ok read) said = said ≡ Ok (seen read)
 ReadsFieldsAs seen (Err error.NoMemory) said = ⊤
 ReadsFieldsAs seen (Err (error.Fault fault)) said = said ≡ Err fault
 
+-- The same, for a reader whose answer is what the fields say.
 abbrev pub ReadsFields : {T : Type 0} → Result T DocError → Result T DocFault → Type 0
 ReadsFields = ReadsFieldsAs (λ read. read)
 
@@ -55,6 +57,7 @@ needed field of document = ok_or (option_and_then of (get (field_name field) doc
 abbrev pub kind_named : List ℕ → Option Kind
 kind_named word = find (λ kind. bytes_eq word (kind_name (kind_of kind))) (Binary32 ∷ Binary64 ∷ Utf8_32 ∷ Utf8_64 ∷ [])
 
+-- a JSON string that is such a name
 abbrev pub kind_from : Data → Option Kind
 kind_from value = option_and_then kind_named (as_str value)
 
@@ -64,6 +67,7 @@ optional_flags None = Some None
 optional_flags (Some null) = Some None
 optional_flags (Some value) = option_map Some (list_of as_bool value)
 
+-- the flags, or that the field is bad
 abbrev pub validity_of : Data → Result (Option (List Bool)) DocFault
 validity_of document = ok_or (optional_flags (get (field_name field.Validity) document)) (BadField field.Validity)
 
@@ -72,6 +76,7 @@ abbrev pub optional_steps : Option Data → Option (List Step)
 optional_steps None = Some []
 optional_steps (Some value) = list_of step_of value
 
+-- the steps, or that the field is bad
 abbrev pub plan_of : Data → Result (List Step) DocFault
 plan_of document = ok_or (optional_steps (get (field_name field.Plan) document)) (BadField field.Plan)
 
@@ -85,7 +90,7 @@ offset_parts number made document = do
   validity ← validity_of document
   Ok (made offsets values validity)
 
--- the fields of a kind
+-- the fields that a kind has, as its parts: numbers of 32 or 64 bits by the kind, of byte strings or of texts
 abbrev pub parts_of : Kind → Data → Result RawColumn DocFault
 parts_of Binary32 document = offset_parts i32_of (Offset32 false) document
 parts_of Binary64 document = offset_parts i64_of (Offset64 false) document
@@ -97,6 +102,7 @@ pub record Document : Type 0 where
   pub parts : RawColumn
   pub plan : List Step
 
+-- a document of these parts and these steps
 abbrev pub document : RawColumn → List Step → Document
 document parts plan = record { parts = parts; plan = plan }
 
@@ -111,3 +117,7 @@ fields_of value = do
 -- What a JSON value says. A word that is not built yet comes before all else.
 unfoldable pub document_of : Data → Result Document DocFault
 document_of value = if has_unbuilt_word value then Err Unbuilt else fields_of value
+
+-- What bytes say. Those that are no JSON say nothing else.
+unfoldable pub document_in : List ℕ → Result Document DocFault
+document_in bytes = ok_or (json_of bytes) Json >>= document_of

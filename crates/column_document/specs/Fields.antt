@@ -3,6 +3,7 @@ use Rattle.std.specs.Prelude.{ℕ, List, codes}
 use Rattle.column_document.specs.declared.field.Field.{Field}
 use Rattle.column_document.specs.declared.field.Field.TheVariants.{Kind, Offsets, Values, Width, Views, Buffers, Numbers, Validity, Plan}
 
+-- the name of a field in a document
 abbrev pub field_name : Field → List ℕ
 field_name Kind = codes "kind"
 field_name Offsets = codes "offsets"

@@ -1,4 +1,5 @@
 pub mod Fields
+pub mod Json
 pub mod Values
 pub mod Steps
 pub mod Unbuilt

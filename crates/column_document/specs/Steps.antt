@@ -10,24 +10,22 @@ use Rattle.column_document.specs.Values.{◌>>=◌, u64_of}
 -- a step without arguments
 abbrev pub no_numbers : Step → Items → Option Step
 no_numbers step no_items = Some step
-no_numbers step (item a rest) = None
+no_numbers step arguments = None
 
 -- a step of exactly one number
 abbrev pub one_number : (ℕ → Step) → Items → Option Step
-one_number step no_items = None
 one_number step (item a no_items) = option_map step (u64_of a)
-one_number step (item a (item b rest)) = None
+one_number step arguments = None
 
 -- a step of exactly two numbers
 abbrev pub two_numbers : (ℕ → ℕ → Step) → Items → Option Step
-two_numbers step no_items = None
-two_numbers step (item a no_items) = None
 two_numbers step (item a (item b no_items)) = do
   first ← u64_of a
   second ← u64_of b
   Some (step first second)
-two_numbers step (item a (item b (item c rest))) = None
+two_numbers step arguments = None
 
+-- a step by its name
 abbrev pub step_named : List ℕ → Items → Option Step
 step_named word arguments =
     if bytes_eq word (codes "slice") then two_numbers Slice arguments
@@ -37,11 +35,13 @@ step_named word arguments =
     else if bytes_eq word (codes "to_binary") then no_numbers ToBinary arguments
     else None
 
+-- a name, and the arguments after it
 abbrev pub step_from : Items → Option Step
 step_from no_items = None
 step_from (item name arguments) = do
   word ← as_str name
   step_named word arguments
 
+-- an array of these
 abbrev pub step_of : Data → Option Step
 step_of value = as_array value >>= step_from

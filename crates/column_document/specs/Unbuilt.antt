@@ -7,11 +7,13 @@ use Rattle.std.specs.Str.{bytes_eq}
 use Rattle.serde_json.specs.Data.{Data, Items, no_items, item}
 use Rattle.serde_json.specs.Find.{get, at, as_str, as_array}
 
+-- a kind of column that is not built yet
 abbrev pub is_unbuilt_kind : List ℕ → Bool
 is_unbuilt_kind word =
     bytes_eq word (codes "fixed") || bytes_eq word (codes "int64") || bytes_eq word (codes "binview")
     || bytes_eq word (codes "utf8view")
 
+-- a step that is not built yet
 abbrev pub is_unbuilt_step : List ℕ → Bool
 is_unbuilt_step word =
     bytes_eq word (codes "gc") || bytes_eq word (codes "dedupe") || bytes_eq word (codes "append")
@@ -22,18 +24,23 @@ abbrev pub holds : {X : Type 0} → (X → Bool) → Option X → Bool
 holds test None = false
 holds test (Some x) = test x
 
+-- an array that begins with such a step
 abbrev pub is_unbuilt_element : Data → Bool
 is_unbuilt_element element = holds is_unbuilt_step (option_and_then as_str (at 0 element))
 
+-- some element of a plan that is such an array
 abbrev pub has_unbuilt_element : Items → Bool
 has_unbuilt_element no_items = false
 has_unbuilt_element (item element rest) = is_unbuilt_element element || has_unbuilt_element rest
 
+-- such a kind under `kind`
 abbrev pub has_unbuilt_kind : Data → Bool
 has_unbuilt_kind document = holds is_unbuilt_kind (option_and_then as_str (get (codes "kind") document))
 
+-- such an array in the plan
 abbrev pub has_unbuilt_step : Data → Bool
 has_unbuilt_step document = holds has_unbuilt_element (option_and_then as_array (get (codes "plan") document))
 
+-- a word of either sort
 abbrev pub has_unbuilt_word : Data → Bool
 has_unbuilt_word document = has_unbuilt_kind document || has_unbuilt_step document

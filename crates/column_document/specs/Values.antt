@@ -13,6 +13,7 @@ ReadsAs seen (Ok read) due = due ≡ Some (seen read)
 ReadsAs seen (Err NoMemory) due = ⊤
 ReadsAs seen (Err Bad) due = due ≡ None
 
+-- The same, for a reader whose answer is what the value stands for.
 abbrev pub Reads : {T : Type 0} → Result T Unread → Option T → Type 0
 Reads = ReadsAs (λ read. read)
 
@@ -38,10 +39,11 @@ list_of of value = as_array value >>= each of
 abbrev pub i64_of : Data → Option ℤ
 i64_of value = as_number value >>= as_i64
 
--- a whole number of 32 bits in two's complement
+-- a number of 32 bits in two's complement
 abbrev pub is_i32 : ℤ → Bool
 is_i32 number = int_le (negsuc 2147483647) number && int_le number (pos 2147483647)
 
+-- a whole number of 32 bits in two's complement
 abbrev pub i32_of : Data → Option ℤ
 i32_of value = do
   number ← i64_of value
@@ -55,5 +57,6 @@ u64_of value = as_number value >>= as_u64
 abbrev pub bytes_of : List ℕ → Option (List ℕ)
 bytes_of text = result_ok (decode_of text)
 
+-- a JSON string of such digits
 abbrev pub hex_of : Data → Option (List ℕ)
 hex_of value = as_str value >>= bytes_of

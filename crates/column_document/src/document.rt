@@ -2,16 +2,32 @@
 
 ghost use Rattle.std.specs.Prelude.{◌≡◌, ◌≢◌};
 ghost use Rattle.serde_json.specs.View.{view};
-ghost use Rattle.column_document.specs.Document.{ReadsFields, ReadsFieldsAs, error_at, needed, kind_from, validity_of, plan_of, parts_of, offset_parts, document, document_of};
+ghost use Rattle.column_document.specs.Document.{ReadsFields, ReadsFieldsAs, error_at, needed, kind_from, validity_of, plan_of, parts_of, offset_parts, document, document_of, document_in};
 
 use crate::field::{DocError, DocFault, Field};
 use crate::from_json::{FromJson, Unread, read_list};
+use crate::json::parse;
 use crate::offset_number::OffsetNumber;
 use crate::unbuilt::has_unbuilt_word;
 use column_relayout::{Kind, RawColumn, Step};
 use column_storage::Bitmap;
 use serde_json::Value;
 use std::alloc::Global;
+
+/// The raw parts and the plan of the document that these bytes are.
+///
+/// `Json` where the bytes are no JSON, as the JSON crate reads it: they have to be UTF-8, and nested at most 127 deep. Or
+/// else the fault that [`read_document`] finds in the value. `NoMemory` may come where a growth finds none.
+///
+/// The bytes are dropped before the fields are read.
+#[tactic(auto, unfolding(crate::specs::Document::document_in))]
+pub fn parse_document(alloc: Global, bytes: Vec<u8>) -> Result<(RawColumn, Vec<Step>), DocError>
+    ensures { ReadsFieldsAs (λ read. document read.0 read.1.items) result (document_in bytes.items) }
+{
+    let value = parse(alloc, &bytes)?;
+    drop(bytes);
+    read_document(alloc, &value)
+}
 
 /// The raw parts and the plan of a document.
 ///

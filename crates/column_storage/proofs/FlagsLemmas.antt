@@ -108,5 +108,3 @@ rows_of-slots_by (flag ∷ flags) (bytes ∷ values) same =
 pub count-given : (flags : Option (List Bool)) (n : ℕ) → count_by not (given_bits flags) ≡ count_by not (flags_of n flags)
 count-given None n = sym (unset-replicate true n)
 count-given (Some bits) n = refl
-
-pub ruleset flags = (flags_of-sliced, length-flags_of, length-sliced_flags, sliced_flags-sliced, optional_values-flags, rows_of-slots_by, count-given)

@@ -30,6 +30,10 @@ values_left {values = values} iter = slice_range (values.items iter.array.now) i
 abbrev pub valid_values_left : {A Shown : Type 0} {values : Values A Shown} → NonNullValuesIter A Shown values → List Shown
 valid_values_left {values = values} iter = at_places (values.items iter.accessor.now) (places_left iter.idxs)
 
+-- how many slots were not looked at yet for values
+abbrev pub value_slots_left : {A Shown : Type 0} {values : Values A Shown} → NonNullValuesIter A Shown values → ℕ
+value_slots_left iter = slots_left iter.idxs
+
 -- the rows that were not given yet: the values that are left, each where its bit is set
 abbrev pub rows_left : {T I V Shown : Type 0} {values : Rest I Shown} {bits : Rest V Bool} → ZipValidity T I V Shown values bits → List (Option Shown)
 rows_left {values = values} {bits = bits} zip = optional_values (given_bits (option_map bits.rest zip.validity)) (values.rest zip.values)

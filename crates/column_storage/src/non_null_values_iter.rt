@@ -24,13 +24,13 @@ ghost use Rattle.column_storage.specs.Bits.{flags_of, valid_values};
 
 #[tactic(auto, using(crate::proofs::ValuesLemmas::values))]
 impl<'a, A: ArrayAccessor<'a>> NonNullValuesIter<'a, A> {
-    ghost use Rattle.column_storage.specs.Iterators.{slots_left, valid_values_left};
+    ghost use Rattle.column_storage.specs.Iterators.{valid_values_left, value_slots_left};
 
     /// The values of the slots whose bits are set, and all of them where no validity is given.
     pub fn new(accessor: &'a A, validity: Option<&'a Bitmap>) -> Self
         requires { IfSome validity (λ bits. length bits.now ≡ length (A.items accessor.now)) }
         ensures values { let items = A.items accessor.now in valid_values_left result ≡ valid_values (flags_of (length items) (option_copied validity.entry)) items }
-        ensures slots { slots_left result.idxs ≡ length (A.items accessor.now) }
+        ensures slots { value_slots_left result ≡ length (A.items accessor.now) }
     {
         NonNullValuesIter {
             accessor,
@@ -53,7 +53,7 @@ impl<'a, A: Values> Copy for NonNullValuesIter<'a, A> {}
 
 #[tactic(auto, using(crate::proofs::ValuesLemmas::values))]
 impl<'a, A: ArrayAccessor<'a>> Iterator for NonNullValuesIter<'a, A> {
-    ghost use Rattle.column_storage.specs.Iterators.{slots_left, valid_values_left};
+    ghost use Rattle.column_storage.specs.Iterators.{valid_values_left, value_slots_left};
 
     type Item = A::Item;
 
@@ -67,7 +67,7 @@ impl<'a, A: ArrayAccessor<'a>> Iterator for NonNullValuesIter<'a, A> {
     }
 
     fn size_hint(&self) -> (usize, Option<usize>)
-        ensures most { result.1 ≡ Some (slots_left self.now.idxs) }
+        ensures most { result.1 ≡ Some (value_slots_left self.now) }
         ensures lower { IsWithinCount result.0 (item_count valid_values_left self.now) }
         ensures upper { IfSome result.1 (UpTo (item_count valid_values_left self.now)) }
     {

@@ -1,0 +1,177 @@
+//! What documents are seen to say: one bool for each group of calls, and no assertion.
+
+use column_document::{DocError, DocFault, Field, parse_document, read_document};
+use column_relayout::{RawColumn, Step};
+use column_storage::{Bitmap, Buffer};
+use serde_json::Value;
+use std::alloc::{AllocError, Global};
+
+type Read = Result<(RawColumn, Vec<Step>), DocError>;
+
+fn parsed(alloc: Global, document: &[u8]) -> Read {
+    let bytes = Vec::from_slice(alloc, document)?;
+    parse_document(alloc, bytes)
+}
+
+// ---- faults
+
+pub fn fault_is(alloc: Global, document: &[u8], fault: DocFault) -> bool {
+    match parsed(alloc, document) {
+        Ok(_) => false,
+        Err(error) => error == DocError::Fault(fault),
+    }
+}
+
+fn is_good(alloc: Global, document: &[u8]) -> bool {
+    parsed(alloc, document).is_ok()
+}
+
+/// The name of a field.
+pub fn field_is_named(field: Field, name: &str) -> bool {
+    field.name() == name
+}
+
+// ---- offsets
+
+fn offset_is_read(alloc: Global, kind: &str, offset: &str, good: bool) -> Result<bool, AllocError> {
+    let text = format!(in alloc; r#"{{"kind":"{kind}","offsets":[{offset}],"values":""}}"#)?;
+    if good {
+        return Ok(is_good(alloc, text.as_bytes()));
+    }
+    Ok(fault_is(alloc, text.as_bytes(), DocFault::BadField(Field::Offsets)))
+}
+
+/// Whether a document with this offset is good, in the kinds of 64 bits and in those of 32.
+pub fn offset_fits(
+    alloc: Global,
+    offset: &str,
+    long: bool,
+    short: bool,
+) -> Result<bool, AllocError> {
+    Ok(
+        offset_is_read(alloc, "binary64", offset, long)?
+            && offset_is_read(alloc, "utf8_64", offset, long)?
+            && offset_is_read(alloc, "binary32", offset, short)?
+            && offset_is_read(alloc, "utf8_32", offset, short)?,
+    )
+}
+
+// ---- plans
+
+fn with_plan(alloc: Global, plan: &str) -> Result<String, AllocError> {
+    format!(in alloc; r#"{{"kind":"binary32","offsets":[0],"values":"","plan":{plan}}}"#)
+}
+
+pub fn plan_is(alloc: Global, plan: &str, wanted: &[Step]) -> Result<bool, AllocError> {
+    let document = with_plan(alloc, plan)?;
+    Ok(match parsed(alloc, document.as_bytes()) {
+        Ok((_parts, plan)) => plan.as_slice() == wanted,
+        Err(_) => false,
+    })
+}
+
+pub fn plan_is_bad(alloc: Global, element: &str) -> Result<bool, AllocError> {
+    let plan = format!(in alloc; r#"[["left",1],{element}]"#)?;
+    let document = with_plan(alloc, plan.as_str())?;
+    Ok(fault_is(alloc, document.as_bytes(), DocFault::BadField(Field::Plan)))
+}
+
+// ---- parts
+
+// the bytes 61 c3 a9 ff, and a set flag before one that is not
+fn has_bytes_and_flags(values: &Buffer<u8>, validity: &Option<Bitmap>) -> bool {
+    let flags = match validity {
+        Some(flags) => { flags.len() == 2 && flags.get_bit(0) && !flags.get_bit(1) }
+        None => false,
+    };
+    flags && values.as_slice() == [0x61, 0xc3, 0xa9, 0xff].as_slice()
+}
+
+fn short_parts_are(parts: &RawColumn, texts: bool) -> bool {
+    match parts {
+        RawColumn::Offset32 {
+            text,
+            offsets,
+            values,
+            validity,
+        } => {
+            *text == texts
+                && offsets.as_slice() == [i32::MIN, 0, i32::MAX].as_slice()
+                && has_bytes_and_flags(values, validity)
+        }
+        RawColumn::Offset64 { .. } => false,
+    }
+}
+
+fn long_parts_are(parts: &RawColumn, texts: bool) -> bool {
+    match parts {
+        RawColumn::Offset64 {
+            text,
+            offsets,
+            values,
+            validity,
+        } => {
+            *text == texts
+                && offsets.as_slice() == [i64::MIN, 2_147_483_648, i64::MAX].as_slice()
+                && has_bytes_and_flags(values, validity)
+        }
+        RawColumn::Offset32 { .. } => false,
+    }
+}
+
+/// The parts of a kind of 32 bits, and a plan of one step.
+pub fn short_document_is_read(alloc: Global, kind: &str, texts: bool) -> Result<bool, AllocError> {
+    let document = format!(in alloc;
+        r#"{{"note":{{"gc":[]}},"plan":[["right",1]],"kind":"{kind}","validity":[true,false],
+        "offsets":[-2147483648,0,2147483647],"values":"61C3a9Ff"}}"#
+    )?;
+    Ok(match parsed(alloc, document.as_bytes()) {
+        Ok((parts, plan)) => plan.as_slice() == [Step::Right(1)].as_slice()
+            && short_parts_are(&parts, texts),
+        Err(_) => false,
+    })
+}
+
+/// The parts of a kind of 64 bits, and no plan.
+pub fn long_document_is_read(alloc: Global, kind: &str, texts: bool) -> Result<bool, AllocError> {
+    let document = format!(in alloc;
+        r#"{{"values":"61C3a9Ff","offsets":[-9223372036854775808,2147483648,9223372036854775807],
+        "validity":[true,false],"kind":"{kind}"}}"#
+    )?;
+    Ok(match parsed(alloc, document.as_bytes()) {
+        Ok((parts, plan)) => plan.is_empty() && long_parts_are(&parts, texts),
+        Err(_) => false,
+    })
+}
+
+fn has_no_flags(parts: &RawColumn) -> bool {
+    match parts {
+        RawColumn::Offset32 { validity, .. } | RawColumn::Offset64 { validity, .. } => {
+            validity.is_none()
+        }
+    }
+}
+
+fn says_no_flags(read: Read) -> bool {
+    match read {
+        Ok((parts, plan)) => plan.is_empty() && has_no_flags(&parts),
+        Err(_) => false,
+    }
+}
+
+fn value_says_no_flags(alloc: Global, value: &Value) -> bool {
+    says_no_flags(read_document(alloc, value))
+}
+
+/// A document without flags and steps, by its value.
+pub fn no_flags_are_none_in_the_value(alloc: Global, document: &[u8]) -> bool {
+    match Value::from_slice(alloc, document) {
+        Ok(value) => value_says_no_flags(alloc, &value),
+        Err(_) => false,
+    }
+}
+
+/// A document without flags and steps, by its bytes.
+pub fn no_flags_are_none(alloc: Global, document: &[u8]) -> bool {
+    says_no_flags(parsed(alloc, document))
+}

@@ -1,0 +1,8 @@
+//! What buffers, bitmaps and iterators are seen to be: one bool for each group of calls, and no assertion.
+
+pub mod bits;
+pub mod buffers;
+pub mod counts;
+pub mod ends;
+pub mod iterators;
+pub mod validity;
