@@ -46,7 +46,7 @@ step_push offsets z sound rises i within = elim (cases_lt (i + 1) (length offset
       rw (offset_at-front offsets z i within, at_end, offset_at-end offsets z, ← at_last) rises
 ]
 
-pub sound_push : (offsets : List ℤ) (z : ℤ) → AreSoundOffsets offsets → last_of offsets ≤ℤ z → AreSoundOffsets (offsets ++ z ∷ [])
+sound_push : (offsets : List ℤ) (z : ℤ) → AreSoundOffsets offsets → last_of offsets ≤ℤ z → AreSoundOffsets (offsets ++ z ∷ [])
 sound_push offsets z sound rises =
     let count = length-append offsets (z ∷ []) in
     let some = sound.not_empty in
@@ -59,7 +59,7 @@ sound_push offsets z sound rises =
 rises_by : (z : ℤ) (n : ℕ) → z ≤ℤ (z +ℤ pos n)
 rises_by z n = omega (arith, ints)
 
-pub sound_pushed : {X : Type 0} (f : X → ℤ) (xs : List X) (x : X) (n : ℕ) → AreSoundOffsets (map f xs) → f x ≡ last_of (map f xs) +ℤ pos n → AreSoundOffsets (map f (xs ++ x ∷ []))
+sound_pushed : {X : Type 0} (f : X → ℤ) (xs : List X) (x : X) (n : ℕ) → AreSoundOffsets (map f xs) → f x ≡ last_of (map f xs) +ℤ pos n → AreSoundOffsets (map f (xs ++ x ∷ []))
 sound_pushed f xs x n sound e =
     rw (map-snoc f xs x, e) (sound_push (map f xs) (last_of (map f xs) +ℤ pos n) sound (rises_by _ n))
 
@@ -73,10 +73,6 @@ pub map_pushed : {X : Type 0} (f : X → ℤ) (xs : List X) (x : X) (n : ℕ) �
 map_pushed f xs x n e = map-snoc f xs x ∙ ap (λ z. map f xs ++ z ∷ []) e
 
 -- ---- many slots
-
-pub sound_extended : (offsets : List ℤ) (lengths : List ℕ) → AreSoundOffsets offsets → AreSoundOffsets (extended offsets lengths)
-sound_extended offsets [] sound = sound
-sound_extended offsets (n ∷ lengths) sound = sound_extended (pushed offsets n) lengths (sound_push offsets (last_of offsets +ℤ pos n) sound (rises_by _ n))
 
 add-sum : (z : ℤ) (n m k : ℕ) → k ≡ n + m → (z +ℤ pos n) +ℤ pos m ≡ z +ℤ pos k
 add-sum z n m k e = omega (arith, ints)
@@ -231,4 +227,4 @@ module _ {S : Type 0} (rest : S → List ℕ) where
       (limit_more greatest (sum given.0) (sum (rest s)) (last_of old) cause (omega arith) given.1.0, given.1.1)
   by_list s greatest old new (Err NoMemory) given = tt
 
-pub ruleset growing = (sound_pushed, map_pushed, last_of-extended, extended-snoc)
+pub ruleset growing = (map_pushed, last_of-extended, extended-snoc)

@@ -177,4 +177,4 @@ numbers_more f offsets xs new x i place before e number there sound within =
     let here : f x ≡ offset_at offsets i = number ∙ ap pos there ∙ pos-nat_of _ (from_zero sound i within) in
     ap (map f) e ∙ map-append f xs (x ∷ []) ∙ ap (λ ns. ns ++ f x ∷ []) before ∙ ap (λ n. take i offsets ++ n ∷ []) here ∙ sym (take_more offsets i (pos 0) within)
 
-pub ruleset sound_offsets = (sound_sublist, sound_part, places_in_order, place_below_last, sound_where_no_fault, length-map)
+pub ruleset sound_offsets = (places_in_order, place_below_last, length-map)

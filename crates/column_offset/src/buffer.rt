@@ -33,7 +33,6 @@ impl<O: Offset> Model for OffsetsBuffer<O> {
     ghost invariant = { λ b. AreOffsetsWithin O.GREATEST (map O.int b.offsets) };
 }
 
-#[tactic(auto, using(column_base::proofs::ListsLemmas::sublists, crate::proofs::OffsetsLemmas::sound_offsets))]
 impl<O: Offset> OffsetsBuffer<O> {
     /// The one offset 0, of no slots.
     ///
@@ -93,6 +92,7 @@ impl<O: Offset> OffsetsBuffer<O> {
     /// The numbers as offsets. One pass, with no memory.
     ///
     /// `OffsetsEmpty`, `OffsetsNegative`, `OffsetsNotMonotone`, the first that stands.
+    #[tactic(auto, using(crate::proofs::OffsetsLemmas::sound_where_no_fault))]
     pub fn try_from_buffer(offsets: Buffer<O>) -> Result<Self, PolarsError>
         ensures { Gives result (offsets_fault (map O.int offsets)) (λ b. b ≡ map O.int offsets) }
     {
@@ -156,6 +156,7 @@ impl<O: Offset> OffsetsBuffer<O> {
     }
 
     /// Where slot `index` starts and ends.
+    #[tactic(auto, using(crate::proofs::OffsetsLemmas::sound_offsets))]
     pub fn start_end(&self, index: usize) -> (usize, usize)
         requires { index + 1 < length self.now }
         ensures start { result.0 ≡ nat_of (offset_at self.now index) }
@@ -236,6 +237,7 @@ impl<O: Offset> OffsetsBuffer<O> {
     }
 
     /// Keeps the `length` offsets from place `offset` on, which are `length - 1` slots. Takes no memory.
+    #[tactic(auto, using(column_base::proofs::ListsLemmas::sublists))]
     pub fn slice(&mut self, offset: usize, length: usize)
         requires some { 0 < length }
         requires within { offset + length ≤ list_length self.old }

@@ -39,7 +39,6 @@ impl<O: Offset> Model for Offsets<O> {
     ghost invariant = { λ o. AreOffsetsWithin O.GREATEST (map O.int o.offsets.items) };
 }
 
-#[tactic(auto, using(crate::proofs::OffsetsLemmas::sound_offsets, crate::proofs::GrowthLemmas::growing))]
 impl<O: Offset> Offsets<O> {
     /// The one offset 0, of no slots.
     ///
@@ -79,6 +78,7 @@ impl<O: Offset> Offsets<O> {
     /// The numbers as offsets. One pass, with no memory.
     ///
     /// `OffsetsEmpty`, `OffsetsNegative`, `OffsetsNotMonotone`, the first that stands.
+    #[tactic(auto, using(crate::proofs::OffsetsLemmas::sound_where_no_fault))]
     pub fn try_from(offsets: Vec<O>) -> Result<Self, PolarsError>
         ensures { Gives result (offsets_fault (map O.int offsets.items)) (λ o. o.offsets ≡ map O.int offsets.items) }
     {
@@ -149,6 +149,7 @@ impl<O: Offset> Offsets<O> {
     }
 
     /// Where slot `index` starts and ends.
+    #[tactic(auto, using(crate::proofs::OffsetsLemmas::sound_offsets))]
     pub fn start_end(&self, index: usize) -> (usize, usize)
         requires { index + 1 < length self.now.offsets }
         ensures start { result.0 ≡ nat_of (offset_at self.now.offsets index) }
