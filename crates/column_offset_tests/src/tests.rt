@@ -1,9 +1,8 @@
 //! The tests: each asserts what a check of `checks` says.
 
-use crate::cases::{growing as grown, shared as share};
 use crate::checks::{growing, levels, raw, shared};
 use column_base::Cause;
-use column_offset::{OffsetsOperation, slots_decide, slots_end_to_end};
+use column_offset::{slots_decide, slots_end_to_end};
 use std::test::Fail;
 
 // ---- raw numbers
@@ -20,23 +19,7 @@ fn numbers_are_checked_in_order(rt: HostRuntime) -> Result<(), Fail> {
         (&[5, 5, 9223372036854775807], None),
     ];
     for (numbers, cause) in table {
-        assert!(rt; raw::numbers_are_told(numbers, cause), "{numbers:?}");
-        assert!(rt;
-            raw::vector_is_told(rt.alloc(), numbers, cause)?,
-            "{numbers:?}"
-        );
-        assert!(rt;
-            shared::vector_is_told(rt.alloc(), numbers, cause)?,
-            "{numbers:?}"
-        );
-        assert!(rt;
-            shared::buffer_is_told(rt.alloc(), numbers, cause)?,
-            "{numbers:?}"
-        );
-        assert!(rt;
-            raw::checked_once(rt.alloc(), numbers)? == cause.is_none(),
-            "{numbers:?}"
-        );
+        assert!(rt; raw::are_told(rt.alloc(), numbers, cause)?, "{numbers:?}");
     }
     Ok(())
 }
@@ -51,15 +34,7 @@ fn narrow_numbers_are_checked_in_order(rt: HostRuntime) -> Result<(), Fail> {
         (&[0, 2147483647], None),
     ];
     for (numbers, cause) in table {
-        assert!(rt; raw::numbers_are_told(numbers, cause), "{numbers:?}");
-        assert!(rt;
-            raw::vector_is_told(rt.alloc(), numbers, cause)?,
-            "{numbers:?}"
-        );
-        assert!(rt;
-            raw::checked_once(rt.alloc(), numbers)? == cause.is_none(),
-            "{numbers:?}"
-        );
+        assert!(rt; raw::are_told(rt.alloc(), numbers, cause)?, "{numbers:?}");
     }
     Ok(())
 }
@@ -67,10 +42,18 @@ fn narrow_numbers_are_checked_in_order(rt: HostRuntime) -> Result<(), Fail> {
 #[test]
 fn offsets_lie_within_their_values(rt: HostRuntime) -> Result<(), Fail> {
     let past = Some(Cause::OffsetsExceedValues);
-    assert!(rt; raw::bound_is_told(rt.alloc(), &[0i32, 2, 5], 5, None)?);
-    assert!(rt; raw::bound_is_told(rt.alloc(), &[0i32, 2, 5], 4, past)?);
-    assert!(rt; raw::bound_is_told(rt.alloc(), &[3i64], 3, None)?);
-    assert!(rt; raw::bound_is_told(rt.alloc(), &[3i64], 2, past)?);
+    let table: [(&[i32], usize, Option<Cause>); 4] = [
+        (&[0, 2, 5], 5, None),
+        (&[0, 2, 5], 4, past),
+        (&[3], 3, None),
+        (&[3], 2, past),
+    ];
+    for (numbers, count, cause) in table {
+        assert!(rt;
+            raw::bound_is_told(rt.alloc(), numbers, count, cause)?,
+            "{numbers:?}"
+        );
+    }
     Ok(())
 }
 
@@ -129,114 +112,81 @@ fn faults_of_text_come_in_order(rt: HostRuntime) -> Result<(), Fail> {
 // ---- keys
 
 #[test]
-fn signed_keys_end_at_their_types(rt: HostRuntime) {
+fn keys_end_at_their_types(rt: HostRuntime) {
     let negative = Some(Cause::KeyNotUsize);
-    assert!(rt; raw::keys_are_told(&[0, i8::MAX, i8::MIN], 128, negative));
-    assert!(rt; raw::keys_are_told(&[0, i16::MAX, -1], 32768, negative));
-    assert!(rt; raw::keys_are_told(&[i32::MAX, i32::MIN], 2147483648, negative));
-    assert!(rt; raw::keys_are_told(&[0, i64::MAX], usize::MAX, None));
-    assert!(rt; raw::keys_are_told(&[i64::MIN], 3, negative));
-}
-
-#[test]
-fn unsigned_keys_end_at_their_types(rt: HostRuntime) {
     let past = |key: usize, len: usize| Some(Cause::KeyOutOfRange { key, len });
-    assert!(rt; raw::keys_are_told(&[0u8, 255], 255, past(255, 255)));
-    assert!(rt; raw::keys_are_told(&[0, u8::MAX], 256, None));
-    assert!(rt; raw::keys_are_told(&[0, u16::MAX], 65536, None));
-    assert!(rt; raw::keys_are_told(&[u32::MAX], 4294967295, past(4294967295, 4294967295)));
-    assert!(rt; raw::keys_are_told(&[u64::MAX], usize::MAX, past(usize::MAX, usize::MAX)));
+    assert!(rt;
+        raw::keys_are_told(&[0, i8::MAX, i8::MIN], 128, negative)
+            && raw::keys_are_told(&[0, i16::MAX, -1], 32768, negative)
+            && raw::keys_are_told(&[i32::MAX, i32::MIN], 2147483648, negative)
+            && raw::keys_are_told(&[0, i64::MAX], usize::MAX, None)
+    );
+    assert!(rt;
+        raw::keys_are_told(&[0u8, 255], 255, past(255, 255))
+            && raw::keys_are_told(&[0, u8::MAX], 256, None)
+            && raw::keys_are_told(&[0, u16::MAX], 65536, None)
+            && raw::keys_are_told(&[u32::MAX], 4294967295, past(4294967295, 4294967295))
+            && raw::keys_are_told(&[u64::MAX], usize::MAX, past(usize::MAX, usize::MAX))
+    );
 }
 
 #[test]
 fn the_first_bad_key_answers(rt: HostRuntime) {
     let five = Some(Cause::KeyOutOfRange { key: 5, len: 3 });
     let negative = Some(Cause::KeyNotUsize);
-    assert!(rt; raw::keys_are_told(&[0u16, 2, 5, 9], 3, five));
-    assert!(rt; raw::keys_are_told(&[0i8, 2, -1], 3, negative));
-    assert!(rt; raw::keys_are_told(&[0i16, 5, -1], 3, five));
-    assert!(rt; raw::keys_are_told(&[0i32, -1, 5], 3, negative));
+    assert!(rt;
+        raw::keys_are_told(&[0u16, 2, 5, 9], 3, five)
+            && raw::keys_are_told(&[0i8, 2, -1], 3, negative)
+            && raw::keys_are_told(&[0i16, 5, -1], 3, five)
+            && raw::keys_are_told(&[0i32, -1, 5], 3, negative)
+    );
 }
 
 #[test]
 fn keys_are_tried_below_and_past(rt: HostRuntime) {
-    let three = Some(Cause::KeyOutOfRange { key: 3, len: 3 });
-    assert!(rt; raw::keys_are_told(&[0i8, 2], 3, None) && raw::keys_are_told(&[3i8], 3, three));
-    assert!(rt; raw::keys_are_told(&[0i16, 2], 3, None) && raw::keys_are_told(&[3i16], 3, three));
-    assert!(rt; raw::keys_are_told(&[0i32, 2], 3, None) && raw::keys_are_told(&[3i32], 3, three));
-    assert!(rt; raw::keys_are_told(&[0i64, 2], 3, None) && raw::keys_are_told(&[3i64], 3, three));
-    assert!(rt; raw::keys_are_told(&[0u8, 2], 3, None) && raw::keys_are_told(&[3u8], 3, three));
-    assert!(rt; raw::keys_are_told(&[0u16, 2], 3, None) && raw::keys_are_told(&[3u16], 3, three));
-    assert!(rt; raw::keys_are_told(&[0u32, 2], 3, None) && raw::keys_are_told(&[3u32], 3, three));
-    assert!(rt; raw::keys_are_told(&[0u64, 2], 3, None) && raw::keys_are_told(&[3u64], 3, three));
-}
-
-#[test]
-fn negative_keys_are_refused(rt: HostRuntime) {
-    let negative = Some(Cause::KeyNotUsize);
     assert!(rt;
-        raw::keys_are_told(&[i8::MIN], 3, negative) && raw::keys_are_told(&[-1i8], 3, negative)
+        raw::keys_are_tried(&[0i8, 2], &[3])
+            && raw::keys_are_tried(&[0i16, 2], &[3])
+            && raw::keys_are_tried(&[0i32, 2], &[3])
+            && raw::keys_are_tried(&[0i64, 2], &[3])
     );
     assert!(rt;
-        raw::keys_are_told(&[i16::MIN], 3, negative) && raw::keys_are_told(&[-1i16], 3, negative)
+        raw::keys_are_tried(&[0u8, 2], &[3])
+            && raw::keys_are_tried(&[0u16, 2], &[3])
+            && raw::keys_are_tried(&[0u32, 2], &[3])
+            && raw::keys_are_tried(&[0u64, 2], &[3])
     );
     assert!(rt;
-        raw::keys_are_told(&[i32::MIN], 3, negative) && raw::keys_are_told(&[-1i32], 3, negative)
-    );
-    assert!(rt;
-        raw::keys_are_told(&[i64::MIN], 3, negative) && raw::keys_are_told(&[-1i64], 3, negative)
+        raw::is_refused(&[i8::MIN])
+            && raw::is_refused(&[-1i8])
+            && raw::is_refused(&[i16::MIN])
+            && raw::is_refused(&[-1i16])
+            && raw::is_refused(&[i32::MIN])
+            && raw::is_refused(&[-1i32])
+            && raw::is_refused(&[i64::MIN])
+            && raw::is_refused(&[-1i64])
     );
 }
 
 // ---- offsets that grow
 
 #[test]
-fn growing_offsets_are_made(rt: HostRuntime) -> Result<(), Fail> {
-    assert!(rt; growing::are_new(rt.alloc(), &[0i32])?);
-    assert!(rt; growing::are_zeros(rt.alloc(), 2, &[0i32, 0, 0])?);
-    assert!(rt; growing::are_from_lengths(rt.alloc(), &[0i32, 2, 2, 5])?);
-    assert!(rt; growing::are_from_items(rt.alloc(), &[0i32, 2, 2, 5])?);
-    assert!(rt; growing::are_new(rt.alloc(), &[0i64])?);
-    assert!(rt; growing::are_zeros(rt.alloc(), 2, &[0i64, 0, 0])?);
-    assert!(rt; growing::are_from_lengths(rt.alloc(), &[0i64, 2, 2, 5])?);
-    assert!(rt; growing::are_from_items(rt.alloc(), &[0i64, 2, 2, 5])?);
-    Ok(())
-}
-
-#[test]
-fn growing_offsets_are_read(rt: HostRuntime) -> Result<(), Fail> {
-    let offsets = grown(rt.alloc(), &[1i32, 3, 3, 7])?;
-    assert!(rt; growing::are_read(&offsets) && growing::ends_are(&offsets, 1, 7));
-    Ok(())
-}
-
-#[test]
-fn wide_growing_offsets_are_read(rt: HostRuntime) -> Result<(), Fail> {
-    let offsets = grown(rt.alloc(), &[1i64, 3, 3, 7])?;
-    assert!(rt; growing::are_read(&offsets) && growing::ends_are(&offsets, 1, 7));
-    Ok(())
-}
-
-#[test]
-fn growing_offsets_are_copied_and_handed_back(rt: HostRuntime) -> Result<(), Fail> {
-    assert!(rt; growing::are_handed_back(rt.alloc(), &[1i32, 3, 3, 7])?);
-    assert!(rt; growing::are_handed_back(rt.alloc(), &[1i64, 3, 3, 7])?);
-    assert!(rt; growing::copy_gives(rt.alloc(), &[1i32, 3, 3, 7])?);
-    assert!(rt; growing::copy_gives(rt.alloc(), &[1i64, 3, 3, 7])?);
-    assert!(rt; growing::room_is_made::<i32>(rt.alloc())?);
-    assert!(rt; growing::room_is_made::<i64>(rt.alloc())?);
+fn growing_offsets_are_made_and_read(rt: HostRuntime) -> Result<(), Fail> {
+    assert!(rt; growing::are_made(rt.alloc())?);
+    assert!(rt; growing::are_readable(rt.alloc())?);
+    assert!(rt; growing::are_readable_wide(rt.alloc())?);
+    assert!(rt; growing::are_kept(rt.alloc())?);
     Ok(())
 }
 
 #[test]
 fn a_push_adds_a_slot_or_changes_nothing(rt: HostRuntime) -> Result<(), Fail> {
     let over = Some(Cause::Overflow);
-    let greatest = 2147483647;
     let table: [(&[i32], usize, Option<Cause>, &[i32]); 5] = [
         (&[0], 3, None, &[0, 3]),
         (&[2147483646], 2, over, &[2147483646]),
         (&[2147483646], 0, None, &[2147483646, 2147483646]),
-        (&[2147483646], 1, None, &[2147483646, greatest]),
+        (&[2147483646], 1, None, &[2147483646, 2147483647]),
         (&[0], usize::MAX, over, &[0]),
     ];
     for (numbers, length, cause, left) in table {
@@ -251,16 +201,11 @@ fn a_push_adds_a_slot_or_changes_nothing(rt: HostRuntime) -> Result<(), Fail> {
 #[test]
 fn wide_offsets_end_at_their_type(rt: HostRuntime) -> Result<(), Fail> {
     let over = Some(Cause::Overflow);
-    let greatest = 9223372036854775807;
+    let last = 9223372036854775806;
     let table: [(&[i64], usize, Option<Cause>, &[i64]); 4] = [
         (&[0], 3, None, &[0, 3]),
-        (&[9223372036854775806], 2, over, &[9223372036854775806]),
-        (
-            &[9223372036854775806],
-            1,
-            None,
-            &[9223372036854775806, greatest],
-        ),
+        (&[last], 2, over, &[last]),
+        (&[last], 1, None, &[last, 9223372036854775807]),
         (&[0], usize::MAX, over, &[0]),
     ];
     for (numbers, length, cause, left) in table {
@@ -273,74 +218,17 @@ fn wide_offsets_end_at_their_type(rt: HostRuntime) -> Result<(), Fail> {
 }
 
 #[test]
-fn the_last_slot_is_taken(rt: HostRuntime) -> Result<(), Fail> {
-    assert!(rt; growing::pop_gives(rt.alloc(), &[0i32], None, &[0])?);
-    assert!(rt; growing::pop_gives(rt.alloc(), &[0i32, 3], Some(3), &[0])?);
-    assert!(rt; growing::pop_gives(rt.alloc(), &[5i64], None, &[5])?);
-    assert!(rt; growing::pop_gives(rt.alloc(), &[0i64, 3, 4], Some(4), &[0, 3])?);
+fn slots_are_taken_and_added(rt: HostRuntime) -> Result<(), Fail> {
+    assert!(rt; growing::are_popped_and_padded(rt.alloc())?);
+    assert!(rt; growing::are_extended(rt.alloc())?);
+    assert!(rt; growing::operations_leave_their_slots(rt.alloc())?);
     Ok(())
 }
 
 #[test]
-fn slots_of_no_bytes_are_added(rt: HostRuntime) -> Result<(), Fail> {
-    assert!(rt; growing::constant_gives(rt.alloc(), &[0i32, 3], 2, &[0, 3, 3, 3])?);
-    assert!(rt; growing::constant_gives(rt.alloc(), &[0i32, 2, 2, 5], 2, &[0, 2, 2, 5, 5, 5])?);
-    assert!(rt; growing::constant_gives(rt.alloc(), &[0i64, 3], 0, &[0, 3])?);
-    Ok(())
-}
-
-#[test]
-fn lengths_are_added_or_change_nothing(rt: HostRuntime) -> Result<(), Fail> {
-    let over = Some(Cause::Overflow);
-    assert!(rt; growing::lengths_give(rt.alloc(), &[0i32, 1], [4, 0], None, &[0, 1, 5, 5])?);
-    assert!(rt; growing::lengths_give(rt.alloc(), &[2147483646i32], [1, 1], over, &[2147483646])?);
-    assert!(rt; growing::lengths_give(rt.alloc(), &[0i64, 1], [4, 0], None, &[0, 1, 5, 5])?);
-    Ok(())
-}
-
-#[test]
-fn slots_of_others_are_added(rt: HostRuntime) -> Result<(), Fail> {
-    let over = Some(Cause::Overflow);
-    assert!(rt; growing::others_give(rt.alloc(), &[0i32, 1], &[5, 7], None, &[0, 1, 3])?);
-    assert!(rt; growing::others_give(rt.alloc(), &[2147483646i32], &[0, 2], over, &[2147483646])?);
-    assert!(rt; growing::others_give(rt.alloc(), &[0i64, 1], &[5, 7], None, &[0, 1, 3])?);
-    assert!(rt; growing::part_gives(rt.alloc(), &[0i32, 1], &[5, 7, 9], &[0, 1, 3])?);
-    assert!(rt; growing::part_gives(rt.alloc(), &[0i64, 1], &[5, 7, 9], &[0, 1, 3])?);
-    Ok(())
-}
-
-#[test]
-fn growing_offsets_change_their_width(rt: HostRuntime) -> Result<(), Fail> {
-    let over = Some(Cause::Overflow);
-    assert!(rt; growing::widened_is(rt.alloc(), &[0, 1, 3], &[0, 1, 3])?);
-    assert!(rt; growing::narrowed_is(rt.alloc(), &[0, 2147483647], &[0, 2147483647])?);
-    assert!(rt; growing::narrow_is_told(rt.alloc(), &[0, 2147483648], over)?);
-    assert!(rt; growing::narrow_is_told(rt.alloc(), &[9223372036854775807], over)?);
-    assert!(rt; growing::comes_back(rt.alloc(), &[0, 1, 2147483647])?);
-    Ok(())
-}
-
-#[test]
-fn operations_leave_their_slots(rt: HostRuntime) -> Result<(), Fail> {
-    let some = [
-        OffsetsOperation::Pop,
-        OffsetsOperation::Push(2),
-        OffsetsOperation::Push(4),
-        OffsetsOperation::Pop,
-        OffsetsOperation::Push(0),
-        OffsetsOperation::Push(3),
-    ];
-    let past = [
-        OffsetsOperation::Push(2147483647),
-        OffsetsOperation::Pop,
-        OffsetsOperation::Push(2147483647),
-        OffsetsOperation::Push(1),
-        OffsetsOperation::Pop,
-    ];
-    assert!(rt; growing::operations_give(rt.alloc(), &some, &[0i32, 2, 2, 5])?);
-    assert!(rt; growing::operations_give(rt.alloc(), &some, &[0i64, 2, 2, 5])?);
-    assert!(rt; growing::operations_are_told::<i32>(rt.alloc(), &past, Some(Cause::Overflow)));
-    assert!(rt; growing::operations_give(rt.alloc(), &past, &[0i64, 2147483647])?);
+fn offsets_change_their_width(rt: HostRuntime) -> Result<(), Fail> {
+    assert!(rt; growing::change_their_width(rt.alloc())?);
+    assert!(rt; shared::change_their_width(rt.alloc())?);
     Ok(())
 }
 
@@ -354,31 +242,11 @@ fn offsets_have_a_debug_text(rt: HostRuntime) -> Result<(), Fail> {
 // ---- offsets that are shared
 
 #[test]
-fn shared_offsets_are_made(rt: HostRuntime) -> Result<(), Fail> {
-    assert!(rt; shared::are_new(rt.alloc(), &[0i32])?);
-    assert!(rt; shared::are_new(rt.alloc(), &[0i64])?);
-    assert!(rt; shared::one_is(rt.alloc(), 5, &[0, 5])?);
-    assert!(rt; shared::are_made_again(rt.alloc(), &[1i32, 3, 3, 7])?);
-    assert!(rt; shared::are_made_again(rt.alloc(), &[1i64, 3, 3, 7])?);
-    assert!(rt; shared::are_grown(rt.alloc(), &[0i32, 2], 1, &[0, 2, 3])?);
-    assert!(rt; shared::are_grown(rt.alloc(), &[0i64, 2], 1, &[0, 2, 3])?);
-    Ok(())
-}
-
-#[test]
-fn shared_offsets_are_read(rt: HostRuntime) -> Result<(), Fail> {
-    let offsets = share(rt.alloc(), &[1i32, 3, 3, 7])?;
-    assert!(rt; shared::are_read(&offsets) && shared::ends_are(&offsets, 1, 7, 6));
-    assert!(rt; shared::lengths_are(&offsets) && shared::pairs_are(&offsets));
-    Ok(())
-}
-
-#[test]
-fn wide_shared_offsets_are_read(rt: HostRuntime) -> Result<(), Fail> {
-    let offsets = share(rt.alloc(), &[1i64, 3, 3, 7])?;
-    assert!(rt; shared::are_read(&offsets) && shared::ends_are(&offsets, 1, 7, 6));
-    assert!(rt; shared::lengths_are(&offsets) && shared::pairs_are(&offsets));
-    assert!(rt; shared::lengths_are_collected(rt.alloc(), &offsets, &[2, 0, 4])?);
+fn shared_offsets_are_made_and_read(rt: HostRuntime) -> Result<(), Fail> {
+    assert!(rt; shared::are_made(rt.alloc())?);
+    assert!(rt; shared::are_readable(rt.alloc())?);
+    assert!(rt; shared::are_readable_wide(rt.alloc())?);
+    assert!(rt; shared::are_shared(rt.alloc())?);
     Ok(())
 }
 
@@ -392,44 +260,31 @@ fn parts_share_their_offsets(rt: HostRuntime) -> Result<(), Fail> {
     ];
     for (from, count, part) in table {
         assert!(rt;
-            shared::part_is(rt.alloc(), &[1i32, 3, 3, 7], from, count, part)?,
-            "{from}"
-        );
-        assert!(rt;
-            shared::unchecked_part_is(rt.alloc(), &[1i32, 3, 3, 7], from, count, part)?,
+            shared::both_parts_are(rt.alloc(), from, count, part)?,
             "{from}"
         );
     }
-    assert!(rt; shared::part_is(rt.alloc(), &[1i64, 3, 3, 7], 1, 2, &[3, 3])?);
-    assert!(rt; shared::share_gives(rt.alloc(), &[1i32, 3, 3, 7])?);
-    assert!(rt; shared::share_gives(rt.alloc(), &[1i64, 3, 3, 7])?);
     Ok(())
 }
 
 #[test]
 fn splits_repeat_the_middle_offset(rt: HostRuntime) -> Result<(), Fail> {
-    let offsets = share(rt.alloc(), &[0i32, 2, 5])?;
-    assert!(rt; shared::bounds_are(&offsets, 2, 3));
-    assert!(rt; shared::halves_are(rt.alloc(), &offsets, 0, &[0], &[0, 2, 5])?);
-    assert!(rt; shared::halves_are(rt.alloc(), &offsets, 1, &[0, 2], &[2, 5])?);
-    assert!(rt; shared::halves_are(rt.alloc(), &offsets, 2, &[0, 2, 5], &[5])?);
-    assert!(rt; shared::unchecked_halves_are(rt.alloc(), &offsets, 1, &[0, 2], &[2, 5])?);
-    Ok(())
-}
-
-#[test]
-fn shared_offsets_change_their_width(rt: HostRuntime) -> Result<(), Fail> {
-    let over = Some(Cause::Overflow);
-    assert!(rt; shared::widened_is(rt.alloc(), &[0, 2147483647], &[0, 2147483647])?);
-    assert!(rt; shared::narrowed_is(rt.alloc(), &[0, 2147483647], &[0, 2147483647])?);
-    assert!(rt; shared::narrow_is_told(rt.alloc(), &[0, 2147483648], over)?);
-    assert!(rt; shared::comes_back(rt.alloc(), &[0, 1, 2147483647])?);
+    let table: [(usize, &[i32], &[i32]); 3] = [
+        (0, &[0], &[0, 2, 5]),
+        (1, &[0, 2], &[2, 5]),
+        (2, &[0, 2, 5], &[5]),
+    ];
+    for (place, front, back) in table {
+        assert!(rt;
+            shared::both_halves_are(rt.alloc(), place, front, back)?,
+            "{place}"
+        );
+    }
     Ok(())
 }
 
 #[test]
 fn nested_slots_reach_their_values(rt: HostRuntime) -> Result<(), Fail> {
     assert!(rt; levels::levels_are_read(rt.alloc(), &[0i32, 2, 3], &[0, 4, 5, 9])?);
-    assert!(rt; levels::levels_are_read(rt.alloc(), &[0i64, 2, 3], &[0, 4, 5, 9])?);
     Ok(())
 }

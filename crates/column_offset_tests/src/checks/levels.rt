@@ -1,6 +1,6 @@
 //! Slots of slots.
 
-use crate::cases::shared;
+use crate::cases::{hint_is, shared};
 use column_base::{Offset, PolarsError};
 use column_offset::OffsetsBuffer;
 use std::alloc::Global;
@@ -22,7 +22,7 @@ fn leaves_are<O: Offset>(levels: &[OffsetsBuffer<O>]) -> bool {
     let mut ranges = OffsetsBuffer::leaf_ranges_iter(levels);
     full.start == 0
         && full.end == 9
-        && ranges.size_hint() == (2, Some(2))
+        && hint_is(ranges.size_hint(), 2)
         && range_is(ranges.next(), 0, 5)
         && range_is(ranges.next(), 5, 9)
         && ranges.next().is_none()

@@ -1,6 +1,7 @@
 //! Raw numbers, texts and keys.
 
-use crate::cases::{error, shared};
+use crate::cases::{error, shared as share};
+use crate::checks::shared;
 use column_base::{Cause, Offset, PolarsError};
 use column_offset::{
     IndexKey, Offsets, check_indexes, no_fault_is_sound, try_check_offsets,
@@ -10,11 +11,11 @@ use std::alloc::Global;
 
 // ---- raw numbers
 
-pub fn numbers_are_told<O: Offset>(numbers: &[O], cause: Option<Cause>) -> bool {
+fn numbers_are_told<O: Offset>(numbers: &[O], cause: Option<Cause>) -> bool {
     try_check_offsets(numbers).err() == error(cause)
 }
 
-pub fn vector_is_told<O: Offset>(
+fn vector_is_told<O: Offset>(
     alloc: Global,
     numbers: &[O],
     cause: Option<Cause>,
@@ -29,18 +30,33 @@ pub fn bound_is_told<O: Offset>(
     count: usize,
     cause: Option<Cause>,
 ) -> Result<bool, PolarsError> {
-    let offsets = shared(alloc, numbers)?;
+    let offsets = share(alloc, numbers)?;
     Ok(try_check_offsets_bounds(offsets.as_slice(), count).err() == error(cause))
 }
 
 /// Raw numbers that the check lets through are made offsets without a second one.
-pub fn checked_once<O: Offset>(alloc: Global, numbers: &[O]) -> Result<bool, PolarsError> {
+fn checked_once<O: Offset>(alloc: Global, numbers: &[O]) -> Result<bool, PolarsError> {
     let items = Vec::from_slice(alloc, numbers)?;
     if try_check_offsets(items.as_slice()).is_err() {
         return Ok(false);
     }
     no_fault_is_sound();
     Ok(Offsets::new_unchecked(items).as_slice() == numbers)
+}
+
+/// The check, and each constructor that makes it.
+pub fn are_told<O: Offset>(
+    alloc: Global,
+    numbers: &[O],
+    cause: Option<Cause>,
+) -> Result<bool, PolarsError> {
+    Ok(
+        numbers_are_told(numbers, cause)
+            && vector_is_told(alloc, numbers, cause)?
+            && shared::vector_is_told(alloc, numbers, cause)?
+            && shared::buffer_is_told(alloc, numbers, cause)?
+            && checked_once(alloc, numbers)? == cause.is_none(),
+    )
 }
 
 // ---- texts
@@ -51,7 +67,7 @@ pub fn cut_is_told<O: Offset>(
     values: &[u8],
     cause: Option<Cause>,
 ) -> Result<bool, PolarsError> {
-    let offsets = shared(alloc, numbers)?;
+    let offsets = share(alloc, numbers)?;
     Ok(try_check_utf8(offsets.as_slice(), values).err() == error(cause))
 }
 
@@ -59,4 +75,15 @@ pub fn cut_is_told<O: Offset>(
 
 pub fn keys_are_told<K: IndexKey>(keys: &[K], len: usize, cause: Option<Cause>) -> bool {
     check_indexes(keys, len).err() == error(cause)
+}
+
+/// Keys within, and the first one past three values.
+pub fn keys_are_tried<K: IndexKey>(within: &[K], past: &[K]) -> bool {
+    keys_are_told(within, 3, None)
+        && keys_are_told(past, 3, Some(Cause::KeyOutOfRange { key: 3, len: 3 }))
+}
+
+/// A negative key.
+pub fn is_refused<K: IndexKey>(keys: &[K]) -> bool {
+    keys_are_told(keys, 3, Some(Cause::KeyNotUsize))
 }

@@ -1,6 +1,6 @@
 //! Offsets that are shared, and their slots one by one.
 
-use crate::cases::{error, shared};
+use crate::cases::{error, hint_is, next_pair_is, pair_is, shared};
 use column_base::{Cause, Offset, PolarsError, Splitable};
 use column_offset::{Offsets, OffsetsBuffer, OffsetsContainer};
 use column_storage::Buffer;
@@ -8,11 +8,11 @@ use std::alloc::Global;
 
 // ---- constructors
 
-pub fn are_new<O: Offset>(alloc: Global, numbers: &[O]) -> Result<bool, PolarsError> {
+fn are_new<O: Offset>(alloc: Global, numbers: &[O]) -> Result<bool, PolarsError> {
     Ok(OffsetsBuffer::<O>::new(alloc)?.as_slice() == numbers)
 }
 
-pub fn one_is(alloc: Global, length: i64, numbers: &[i64]) -> Result<bool, PolarsError> {
+fn one_is(alloc: Global, length: i64, numbers: &[i64]) -> Result<bool, PolarsError> {
     if length < 0 {
         return Ok(false);
     }
@@ -38,13 +38,13 @@ pub fn buffer_is_told<O: Offset>(
 }
 
 /// The numbers of shared offsets make offsets again, without a check.
-pub fn are_made_again<O: Offset>(alloc: Global, numbers: &[O]) -> Result<bool, PolarsError> {
+fn are_made_again<O: Offset>(alloc: Global, numbers: &[O]) -> Result<bool, PolarsError> {
     let items = shared(alloc, numbers)?.into_inner();
     Ok(OffsetsBuffer::new_unchecked(items).as_slice() == numbers)
 }
 
 /// Offsets that were shared grow by one slot, and are shared again.
-pub fn are_grown<O: Offset>(
+fn are_grown<O: Offset>(
     alloc: Global,
     numbers: &[O],
     length: usize,
@@ -57,14 +57,23 @@ pub fn are_grown<O: Offset>(
     Ok(OffsetsBuffer::from_offsets(alloc, offsets)?.as_slice() == left)
 }
 
+pub fn are_made(alloc: Global) -> Result<bool, PolarsError> {
+    Ok(
+        are_new(alloc, &[0i32])?
+            && one_is(alloc, 5, &[0, 5])?
+            && are_made_again(alloc, &[1i32, 3, 3, 7])?
+            && are_grown(alloc, &[0i32, 2], 1, &[0, 2, 3])?,
+    )
+}
+
 // ---- readers
 
 /// Readers of 1, 3, 3, 7.
-pub fn are_read<O: Offset>(offsets: &OffsetsBuffer<O>) -> bool {
+fn are_read<O: Offset>(offsets: &OffsetsBuffer<O>) -> bool {
     offsets.len() == 4
         && offsets.len_proxy() == 3
-        && offsets.start_end(0) == (1, 3)
-        && offsets.start_end_unchecked(2) == (3, 7)
+        && pair_is(offsets.start_end(0), 1, 3)
+        && pair_is(offsets.start_end_unchecked(2), 3, 7)
         && offsets.length_at(1) == 0
         && offsets.length_at(2) == 4
         && offsets.delta(0, 0) == 2
@@ -74,20 +83,20 @@ pub fn are_read<O: Offset>(offsets: &OffsetsBuffer<O>) -> bool {
         && offsets.buffer().len() == 4
 }
 
-pub fn ends_are<O: Offset>(offsets: &OffsetsBuffer<O>, first: O, last: O, range: O) -> bool {
+fn ends_are<O: Offset>(offsets: &OffsetsBuffer<O>, first: O, last: O, range: O) -> bool {
     *offsets.first() == first && *offsets.last() == last && offsets.range() == range
 }
 
 // ---- slots one by one, and None again and again
 
 /// The lengths of 1, 3, 3, 7.
-pub fn lengths_are<O: Offset>(offsets: &OffsetsBuffer<O>) -> bool {
+fn lengths_are<O: Offset>(offsets: &OffsetsBuffer<O>) -> bool {
     let mut lengths = offsets.lengths();
-    lengths.size_hint() == (3, Some(3))
+    hint_is(lengths.size_hint(), 3)
         && lengths.len() == 3
         && lengths.next() == Some(2)
         && lengths.next() == Some(0)
-        && lengths.size_hint() == (1, Some(1))
+        && hint_is(lengths.size_hint(), 1)
         && lengths.next() == Some(4)
         && lengths.next().is_none()
         && lengths.next().is_none()
@@ -95,19 +104,40 @@ pub fn lengths_are<O: Offset>(offsets: &OffsetsBuffer<O>) -> bool {
 }
 
 /// Where the slots of 1, 3, 3, 7 start, and their lengths.
-pub fn pairs_are<O: Offset>(offsets: &OffsetsBuffer<O>) -> bool {
+fn pairs_are<O: Offset>(offsets: &OffsetsBuffer<O>) -> bool {
     let mut pairs = offsets.offset_and_length_iter();
-    pairs.size_hint() == (3, Some(3))
+    hint_is(pairs.size_hint(), 3)
         && pairs.len() == 3
-        && pairs.next() == Some((1, 2))
-        && pairs.next() == Some((3, 0))
-        && pairs.next() == Some((3, 4))
+        && next_pair_is(pairs.next(), 1, 2)
+        && next_pair_is(pairs.next(), 3, 0)
+        && next_pair_is(pairs.next(), 3, 4)
         && pairs.next().is_none()
         && pairs.next().is_none()
-        && pairs.size_hint() == (0, Some(0))
+        && hint_is(pairs.size_hint(), 0)
 }
 
-pub fn lengths_are_collected(
+pub fn are_readable(alloc: Global) -> Result<bool, PolarsError> {
+    let offsets = shared(alloc, &[1i32, 3, 3, 7])?;
+    Ok(
+        are_read(&offsets)
+            && ends_are(&offsets, 1, 7, 6)
+            && lengths_are(&offsets)
+            && pairs_are(&offsets),
+    )
+}
+
+pub fn are_readable_wide(alloc: Global) -> Result<bool, PolarsError> {
+    let offsets = shared(alloc, &[1i64, 3, 3, 7])?;
+    Ok(
+        are_read(&offsets)
+            && ends_are(&offsets, 1, 7, 6)
+            && lengths_are(&offsets)
+            && pairs_are(&offsets)
+            && lengths_are_collected(alloc, &offsets, &[2, 0, 4])?,
+    )
+}
+
+fn lengths_are_collected(
     alloc: Global,
     offsets: &OffsetsBuffer<i64>,
     wanted: &[usize],
@@ -118,7 +148,7 @@ pub fn lengths_are_collected(
 
 // ---- parts
 
-pub fn part_is<O: Offset>(
+fn part_is<O: Offset>(
     alloc: Global,
     numbers: &[O],
     from: usize,
@@ -133,7 +163,7 @@ pub fn part_is<O: Offset>(
     Ok(offsets.as_slice() == part)
 }
 
-pub fn unchecked_part_is<O: Offset>(
+fn unchecked_part_is<O: Offset>(
     alloc: Global,
     numbers: &[O],
     from: usize,
@@ -148,6 +178,19 @@ pub fn unchecked_part_is<O: Offset>(
     Ok(offsets.as_slice() == part)
 }
 
+/// Parts of 1, 3, 3, 7.
+pub fn both_parts_are(
+    alloc: Global,
+    from: usize,
+    count: usize,
+    part: &[i32],
+) -> Result<bool, PolarsError> {
+    Ok(
+        part_is(alloc, &[1, 3, 3, 7], from, count, part)?
+            && unchecked_part_is(alloc, &[1, 3, 3, 7], from, count, part)?,
+    )
+}
+
 fn share_is<O: Offset>(
     alloc: Global,
     offsets: &OffsetsBuffer<O>,
@@ -157,16 +200,20 @@ fn share_is<O: Offset>(
     Ok(share == *offsets && share.as_slice() == numbers)
 }
 
-pub fn share_gives<O: Offset>(alloc: Global, numbers: &[O]) -> Result<bool, PolarsError> {
+fn share_gives<O: Offset>(alloc: Global, numbers: &[O]) -> Result<bool, PolarsError> {
     let offsets = shared(alloc, numbers)?;
     share_is(alloc, &offsets, numbers)
 }
 
-pub fn bounds_are<O: Offset>(offsets: &OffsetsBuffer<O>, within: usize, past: usize) -> bool {
+pub fn are_shared(alloc: Global) -> Result<bool, PolarsError> {
+    Ok(share_gives(alloc, &[1i32, 3, 3, 7])? && share_gives(alloc, &[1i64, 3, 3, 7])?)
+}
+
+fn bounds_are<O: Offset>(offsets: &OffsetsBuffer<O>, within: usize, past: usize) -> bool {
     offsets.check_bound(within) && !offsets.check_bound(past)
 }
 
-pub fn halves_are<O: Offset>(
+fn halves_are<O: Offset>(
     alloc: Global,
     offsets: &OffsetsBuffer<O>,
     place: usize,
@@ -180,7 +227,7 @@ pub fn halves_are<O: Offset>(
     Ok(one.as_slice() == front && other.as_slice() == back)
 }
 
-pub fn unchecked_halves_are<O: Offset>(
+fn unchecked_halves_are<O: Offset>(
     alloc: Global,
     offsets: &OffsetsBuffer<O>,
     place: usize,
@@ -194,19 +241,34 @@ pub fn unchecked_halves_are<O: Offset>(
     Ok(one.as_slice() == front && other.as_slice() == back)
 }
 
+/// Halves of 0, 2, 5.
+pub fn both_halves_are(
+    alloc: Global,
+    place: usize,
+    front: &[i32],
+    back: &[i32],
+) -> Result<bool, PolarsError> {
+    let offsets = shared(alloc, &[0i32, 2, 5])?;
+    Ok(
+        bounds_are(&offsets, 2, 3)
+            && halves_are(alloc, &offsets, place, front, back)?
+            && unchecked_halves_are(alloc, &offsets, place, front, back)?,
+    )
+}
+
 // ---- widths
 
-pub fn widened_is(alloc: Global, numbers: &[i32], wide: &[i64]) -> Result<bool, PolarsError> {
+fn widened_is(alloc: Global, numbers: &[i32], wide: &[i64]) -> Result<bool, PolarsError> {
     let offsets = shared(alloc, numbers)?;
     Ok(OffsetsBuffer::<i64>::widen(alloc, &offsets)?.as_slice() == wide)
 }
 
-pub fn narrowed_is(alloc: Global, numbers: &[i64], narrow: &[i32]) -> Result<bool, PolarsError> {
+fn narrowed_is(alloc: Global, numbers: &[i64], narrow: &[i32]) -> Result<bool, PolarsError> {
     let offsets = shared(alloc, numbers)?;
     Ok(OffsetsBuffer::<i32>::narrow(alloc, &offsets)?.as_slice() == narrow)
 }
 
-pub fn narrow_is_told(
+fn narrow_is_told(
     alloc: Global,
     numbers: &[i64],
     cause: Option<Cause>,
@@ -215,9 +277,19 @@ pub fn narrow_is_told(
     Ok(OffsetsBuffer::<i32>::narrow(alloc, &offsets).err() == error(cause))
 }
 
-pub fn comes_back(alloc: Global, numbers: &[i32]) -> Result<bool, PolarsError> {
+fn comes_back(alloc: Global, numbers: &[i32]) -> Result<bool, PolarsError> {
     let offsets = shared(alloc, numbers)?;
     Ok(OffsetsBuffer::<i32>::widen_and_narrow(alloc, &offsets)? == offsets)
+}
+
+pub fn change_their_width(alloc: Global) -> Result<bool, PolarsError> {
+    let over = Some(Cause::Overflow);
+    Ok(
+        widened_is(alloc, &[0, 2147483647], &[0, 2147483647])?
+            && narrowed_is(alloc, &[0, 2147483647], &[0, 2147483647])?
+            && narrow_is_told(alloc, &[0, 2147483648], over)?
+            && comes_back(alloc, &[0, 1, 2147483647])?,
+    )
 }
 
 // ---- text
