@@ -78,4 +78,6 @@ lengths_of-part f xs start n =
     ∙ ap (take n) (lengths_of-drop start (map f xs))
     )
 
-pub ruleset slots = (lengths_of-none_map, lengths_of-next_map, length-lengths_of, starts_and_lengths_of-none_map, starts_and_lengths_of-next_map, length-starts_and_lengths_of, length-map)
+pub ruleset lengths = (lengths_of-none_map, lengths_of-next_map, length-lengths_of, length-map)
+
+pub ruleset pairs = (starts_and_lengths_of-none_map, starts_and_lengths_of-next_map, length-starts_and_lengths_of, length-map)

@@ -26,7 +26,7 @@ impl<'a, O: Offset> Lengths<'a, O> {
     }
 }
 
-#[tactic(auto, using(crate::proofs::SlotsLemmas::slots))]
+#[tactic(auto, using(crate::proofs::SlotsLemmas::lengths))]
 impl<'a, O: Offset> Iterator for Lengths<'a, O> {
     ghost use Rattle.std.specs.Prelude.{◌≡◌, length, map, Some, IfSome};
     ghost use Rattle.std.specs.Iterator.{YieldsFirst, item_count, UpTo, at_most};
@@ -58,7 +58,7 @@ impl<'a, O: Offset> Iterator for Lengths<'a, O> {
     }
 }
 
-#[tactic(auto, using(crate::proofs::SlotsLemmas::slots))]
+#[tactic(auto, using(crate::proofs::SlotsLemmas::lengths))]
 impl<'a, O: Offset> ExactSizeIterator for Lengths<'a, O> {
     fn len(&self) -> usize {
         self.offsets.len() - 1
@@ -86,7 +86,7 @@ impl<'a, O: Offset> OffsetAndLengthIter<'a, O> {
     }
 }
 
-#[tactic(auto, using(crate::proofs::SlotsLemmas::slots))]
+#[tactic(auto, using(crate::proofs::SlotsLemmas::pairs))]
 impl<'a, O: Offset> Iterator for OffsetAndLengthIter<'a, O> {
     ghost use Rattle.std.specs.Prelude.{◌≡◌, length, map, Some, IfSome};
     ghost use Rattle.std.specs.Iterator.{YieldsFirst, item_count, UpTo, at_most};
@@ -119,7 +119,7 @@ impl<'a, O: Offset> Iterator for OffsetAndLengthIter<'a, O> {
     }
 }
 
-#[tactic(auto, using(crate::proofs::SlotsLemmas::slots))]
+#[tactic(auto, using(crate::proofs::SlotsLemmas::pairs))]
 impl<'a, O: Offset> ExactSizeIterator for OffsetAndLengthIter<'a, O> {
     fn len(&self) -> usize {
         self.offsets.len() - 1

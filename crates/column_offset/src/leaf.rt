@@ -44,7 +44,6 @@ pub struct LeafRanges<'a, O: Offset> {
     ghost fits: { fits_levels (nat_of (last_of (map O.int offsets.now))) levels.now ≡ true },
 }
 
-#[tactic(auto, using(crate::proofs::LeavesLemmas::leaves, crate::proofs::OffsetsLemmas::sound_offsets, crate::proofs::SlotsLemmas::slots))]
 impl<'a, O: Offset> Iterator for LeafRanges<'a, O> {
     ghost use Rattle.std.specs.Prelude.{◌≡◌, length, map, Some, IfSome};
     ghost use Rattle.std.specs.Iterator.{YieldsFirstBy, item_count, UpTo, at_most};
@@ -57,6 +56,7 @@ impl<'a, O: Offset> Iterator for LeafRanges<'a, O> {
 
     ghost remaining = { item_count (λ s. leaf_ranges (map O.int s.offsets.now) s.levels.now) };
 
+    #[tactic(auto, using(crate::proofs::LeavesLemmas::leaves, crate::proofs::OffsetsLemmas::sound_offsets))]
     fn next(&mut self) -> Option<Range<usize>> {
         if self.offsets.len() < 2 {
             return None;
@@ -67,6 +67,7 @@ impl<'a, O: Offset> Iterator for LeafRanges<'a, O> {
         Some(start..end)
     }
 
+    #[tactic(auto, using(crate::proofs::LeavesLemmas::counts, crate::proofs::OffsetsLemmas::sound_offsets))]
     fn size_hint(&self) -> (usize, Option<usize>)
         ensures lower { IsWithinCount result.0 (at_most (length (leaf_ranges (map O.int self.now.offsets.now) self.now.levels.now))) }
         ensures upper { IfSome result.1 (UpTo (at_most (length (leaf_ranges (map O.int self.now.offsets.now) self.now.levels.now)))) }
