@@ -26,5 +26,5 @@ pub use iterator::{Lengths, OffsetAndLengthIter};
 pub use keys::{IndexKey, check_indexes};
 pub use leaf::LeafRanges;
 pub use offsets::Offsets;
-pub use operations::{OffsetsOperation, replay};
+pub use operations::OffsetsOperation;
 pub use text::{check_utf8, slots_decide, slots_end_to_end, try_check_utf8};

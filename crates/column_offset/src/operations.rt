@@ -19,21 +19,23 @@ pub enum OffsetsOperation {
     Pop,
 }
 
-/// Law of builders: operations on new [`Offsets`], run by its own calls, leave the offsets of the slots that the same
-/// operations leave of a list of lengths.
-///
-/// `Overflow` where a push passes the type, the first that does, `NoMemory` where there is none for the offsets.
-pub fn replay<O: Offset>(
-    alloc: Global,
-    operations: &[OffsetsOperation],
-) -> Result<OffsetsBuffer<O>, PolarsError>
-    ensures { Answers result (operations_fault O.GREATEST [] operations.now) (λ b. b ≡ extended (pos 0 ∷ []) (lengths_left [] operations.now)) }
-{
-    let mut offsets = Offsets::new(alloc)?;
-    for operation in operations {
-        apply(&mut offsets, operation)?;
+impl<O: Offset> Offsets<O> {
+    /// Law of builders: operations on new [`Offsets`], run by its own calls, leave the offsets of the slots that the same
+    /// operations leave of a list of lengths.
+    ///
+    /// `Overflow` where a push passes the type, the first that does, `NoMemory` where there is none for the offsets.
+    pub fn replay(
+        alloc: Global,
+        operations: &[OffsetsOperation],
+    ) -> Result<OffsetsBuffer<O>, PolarsError>
+        ensures { Answers result (operations_fault O.GREATEST [] operations.now) (λ b. b ≡ extended (pos 0 ∷ []) (lengths_left [] operations.now)) }
+    {
+        let mut offsets = Offsets::new(alloc)?;
+        for operation in operations {
+            apply(&mut offsets, operation)?;
+        }
+        OffsetsBuffer::from_offsets(alloc, offsets)
     }
-    OffsetsBuffer::from_offsets(alloc, offsets)
 }
 
 /// One operation.

@@ -2,7 +2,7 @@
 
 use crate::cases::{error, growing, pair_is, shared};
 use column_base::{Cause, Offset, PolarsError};
-use column_offset::{Offsets, OffsetsContainer, OffsetsOperation, replay};
+use column_offset::{Offsets, OffsetsContainer, OffsetsOperation};
 use std::alloc::Global;
 
 // ---- constructors
@@ -247,7 +247,7 @@ fn operations_give<O: Offset>(
     operations: &[OffsetsOperation],
     numbers: &[O],
 ) -> Result<bool, PolarsError> {
-    Ok(replay::<O>(alloc, operations)?.as_slice() == numbers)
+    Ok(Offsets::<O>::replay(alloc, operations)?.as_slice() == numbers)
 }
 
 fn operations_are_told<O: Offset>(
@@ -255,7 +255,7 @@ fn operations_are_told<O: Offset>(
     operations: &[OffsetsOperation],
     cause: Option<Cause>,
 ) -> bool {
-    replay::<O>(alloc, operations).err() == error(cause)
+    Offsets::<O>::replay(alloc, operations).err() == error(cause)
 }
 
 pub fn operations_leave_their_slots(alloc: Global) -> Result<bool, PolarsError> {

@@ -1,5 +1,5 @@
 use Rattle.column_offset.proofs.OperationsLemmas.{Replays}
-use Rattle.column_offset.proofs.operations.replay.Given as goal
+use Rattle.column_offset.proofs.offsets.Offsets.replay.Given as goal
 
 abbrev pub invariant-loop-operation : goal.invariant-loop-operation
 invariant-loop-operation g l = Replays g.O.Offset.GREATEST l.operations l.operation-index l.offsets.offsets

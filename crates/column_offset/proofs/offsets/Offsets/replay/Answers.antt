@@ -2,7 +2,7 @@ use Rattle.std.proofs.Common.{◌∙◌, ap, Err}
 use Rattle.std.proofs.lemmas.Result.{err_from_is_err_and}
 use Rattle.column_base.proofs.AnswersLemmas.{answers_err}
 use Rattle.column_offset.proofs.OperationsLemmas.{replays_more, replays_refused}
-use Rattle.column_offset.proofs.operations.replay.Goals as goal
+use Rattle.column_offset.proofs.offsets.Offsets.replay.Goals as goal
 
 pub returns-in_err-apply : goal.returns-in_err-apply
 returns-in_err-apply g c =
