@@ -97,7 +97,8 @@ impl<O: Offset> BinaryArray<O> {
         values: Buffer<u8>,
         validity: Option<Bitmap>,
     ) -> Self
-        requires { array_fault (offset_lists offsets values validity) or_else type_fault O.IS_LARGE dtype ≡ None }
+        requires lists { array_fault (offset_lists offsets values validity) ≡ None }
+        requires own { type_fault O.IS_LARGE dtype ≡ None }
         ensures { result ≡ offset_lists offsets values validity }
     {
         match BinaryArray::try_new(dtype, offsets, values, validity) {

@@ -56,3 +56,8 @@ pub fn four_large(alloc: Global) -> Result<BinaryArray<i64>, PolarsError> {
         ArrowDataType::LargeBinary,
     )
 }
+
+/// The first slot alone.
+pub fn first(alloc: Global) -> Result<BinaryArray<i32>, PolarsError> {
+    array(alloc, &[1, 3], BYTES, Some(&[true]), ArrowDataType::Binary)
+}

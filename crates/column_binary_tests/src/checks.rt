@@ -1,13 +1,14 @@
 //! What an array is seen to be: one truth value for each group of calls, and no assertion.
 
-ghost use Rattle.std.specs.Prelude.{◌+◌, ◌≤◌};
+ghost use Rattle.std.specs.Prelude.{◌≡◌, ◌+◌, ◌≤◌, []};
 ghost use Rattle.column_binary.specs.Slots.{slot_count};
 
 use crate::cases::{BYTES, Flags, array, bitmap, buffer, four, four_large};
 use column_base::{ArrowDataType, Cause, Offset, PolarsError, Splitable};
-use column_binary::BinaryArray;
-use column_offset::OffsetsBuffer;
-use column_storage::{ArrayAccessor, ArrayValuesIter, Bitmap, Buffer};
+use column_binary::{BinaryArray, no_fault_is_sound};
+use column_storage::{
+    ArrayAccessor, ArrayValuesIter, Bitmap, Buffer, Listed, ListedBack, check_validity,
+};
 use std::alloc::Global;
 
 // ---- lists
@@ -79,19 +80,6 @@ fn dtype_is<O: Offset>(array: &BinaryArray<O>, dtype: ArrowDataType) -> bool {
     array.dtype() == dtype && BinaryArray::<O>::default_dtype() == dtype
 }
 
-pub fn new_is_whole(alloc: Global) -> Result<bool, PolarsError> {
-    let offsets = OffsetsBuffer::one_with_length(alloc, 0i32)?;
-    let array = BinaryArray::new(ArrowDataType::Binary, offsets, buffer(alloc, b"a")?, None);
-    Ok(lists_are(&array, &[0, 0], b"a", None))
-}
-
-pub fn new_unchecked_is_whole(alloc: Global) -> Result<bool, PolarsError> {
-    let offsets = OffsetsBuffer::one_with_length(alloc, 0i64)?;
-    let large = ArrowDataType::LargeBinary;
-    let array = BinaryArray::new_unchecked(large, offsets, buffer(alloc, b"a")?, None);
-    Ok(lists_are(&array, &[0, 0], b"a", None))
-}
-
 pub fn empty_is(alloc: Global) -> Result<bool, PolarsError> {
     let array = BinaryArray::<i32>::new_empty(alloc, ArrowDataType::Binary)?;
     Ok(lists_are(&array, &[0], b"", None))
@@ -145,47 +133,85 @@ pub fn four_large_are_read(array: &BinaryArray<i64>) -> bool {
 
 // ---- iterators
 
-pub fn rows_are(array: &BinaryArray<i32>, wanted: &[Option<&[u8]>]) -> bool {
-    array.into_iter().eq(wanted.iter().copied())
+// any iterator that gives a list, first to last
+fn gives<T: Copy + PartialEq, I: Listed<Item = T>>(it: I, wanted: &[T]) -> bool
+    requires { I.can_next it }
+{
+    it.eq(wanted.iter().copied())
 }
 
-pub fn large_rows_are(array: &BinaryArray<i64>, wanted: &[Option<&[u8]>]) -> bool {
-    array.iter().eq(wanted.iter().copied())
+// any iterator that gives four items from both ends, and None from both once they are given
+fn ends_are<T: Copy + PartialEq, I: ListedBack<Item = T>>(it: I, wanted: [T; 4]) -> bool
+    requires front { (s : I) → I.can_next s }
+    requires back { (s : I) → I.can_next_back s }
+{
+    let mut it = it;
+    let [one, two, three, four] = wanted;
+    it.size_hint() == (4, Some(4))
+        && it.next() == Some(one)
+        && it.next_back() == Some(four)
+        && it.next() == Some(two)
+        && it.next_back() == Some(three)
+        && it.next().is_none()
+        && is_over(&mut it)
 }
 
-pub fn values_are(array: &BinaryArray<i32>, wanted: &[&[u8]]) -> bool {
-    array.values_iter().eq(wanted.iter().copied())
+// any iterator that has nothing left, at both ends
+fn is_over<T: Drop, I: ListedBack<Item = T>>(it: &mut I) -> bool
+    requires { I.rest it.old ≡ [] }
+{
+    it.next_back().is_none()
+        && it.next().is_none()
+        && it.next().is_none()
+        && it.next_back().is_none()
 }
 
-pub fn valid_are(array: &BinaryArray<i32>, wanted: &[&[u8]]) -> bool {
-    array.non_null_values_iter().eq(wanted.iter().copied())
+const ROWS: [Option<&[u8]>; 4] = [Some(b"ab"), None, Some(b""), Some(b"de")];
+
+const LARGE_ROWS: [Option<&[u8]>; 4] = [Some(b"ab"), Some(b"c"), Some(b""), Some(b"de")];
+
+const VALUES: [&[u8]; 4] = [b"ab", b"c", b"", b"de"];
+
+pub fn rows_are(array: &BinaryArray<i32>) -> bool {
+    gives(array.into_iter(), &ROWS) && ends_are(array.iter(), ROWS)
 }
 
-pub fn large_valid_are(array: &BinaryArray<i64>, wanted: &[&[u8]]) -> bool {
-    let values = array.non_null_values_iter();
-    values.size_hint() == (4, Some(4)) && values.eq(wanted.iter().copied())
+pub fn large_rows_are(array: &BinaryArray<i64>) -> bool {
+    gives(array.iter(), &LARGE_ROWS) && ends_are(array.into_iter(), LARGE_ROWS)
 }
 
-pub fn ends_are_rows(array: &BinaryArray<i32>, between: &[Option<&[u8]>]) -> bool {
+pub fn values_are(array: &BinaryArray<i32>) -> bool {
+    gives(array.values_iter(), &VALUES) && gives(array.non_null_values_iter(), &[b"ab", b"", b"de"])
+}
+
+pub fn large_values_are(array: &BinaryArray<i64>) -> bool {
+    ends_are(array.values_iter(), VALUES)
+        && gives(array.non_null_values_iter(), &VALUES)
+        && array.non_null_values_iter().size_hint() == (4, Some(4))
+}
+
+// of one slot, which each iterator gives, and None from then on
+pub fn one_row_is(array: &BinaryArray<i32>) -> bool {
     let mut rows = array.iter();
-    rows.size_hint() == (4, Some(4))
-        && rows.next() == Some(Some(b"ab".as_slice()))
-        && rows.next_back() == Some(Some(b"de".as_slice()))
-        && rows.eq(between.iter().copied())
+    rows.next() == Some(Some(b"ab".as_slice()))
+        && rows.next_back().is_none()
+        && rows.next().is_none()
+        && rows.next().is_none()
+        && rows.next_back().is_none()
 }
 
-pub fn large_ends_are_rows(array: &BinaryArray<i64>, between: &[Option<&[u8]>]) -> bool {
-    let mut rows = array.iter();
-    rows.next_back() == Some(Some(b"de".as_slice()))
-        && rows.next() == Some(Some(b"ab".as_slice()))
-        && rows.rev().eq(between.iter().rev().copied())
-}
-
-pub fn ends_are_values(array: &BinaryArray<i64>, between: &[&[u8]]) -> bool {
+pub fn one_value_is(array: &BinaryArray<i32>) -> bool {
     let mut values = array.values_iter();
-    values.next_back() == Some(b"de".as_slice())
-        && values.next() == Some(b"ab".as_slice())
-        && values.rev().eq(between.iter().rev().copied())
+    values.next_back() == Some(b"ab".as_slice())
+        && values.next().is_none()
+        && values.next_back().is_none()
+        && values.next_back().is_none()
+        && values.next().is_none()
+}
+
+pub fn one_valid_is(array: &BinaryArray<i32>) -> bool {
+    let mut values = array.non_null_values_iter();
+    values.next() == Some(b"ab".as_slice()) && values.next().is_none() && values.next().is_none()
 }
 
 // ---- parts
@@ -313,17 +339,34 @@ pub fn four_large_cut(
 }
 
 pub fn bounds_are(array: &BinaryArray<i64>) -> bool {
+    array.known();
     array.check_bound(4) && !array.check_bound(5)
 }
 
 // ---- shared and handed back
 
-fn is_handed_back<O: Offset>(array: BinaryArray<O>, offsets: &[O], flags: Flags<'_>) -> bool {
+// taken apart and put together again
+fn is_again<O: Offset>(array: BinaryArray<O>, offsets: &[O], flags: Flags<'_>) -> bool {
     let (dtype, all, values, bits) = array.into_inner();
     dtype == BinaryArray::<O>::default_dtype()
-        && all.as_slice() == offsets
-        && values.as_slice() == BYTES
-        && flags_are(bits.as_ref(), flags)
+        && lists_are(
+            &BinaryArray::new_unchecked(dtype, all, values, bits),
+            offsets,
+            BYTES,
+            flags,
+        )
+}
+
+// the same, by the call that asks for lists without a fault
+fn is_new_again<O: Offset>(array: BinaryArray<O>, offsets: &[O], flags: Flags<'_>) -> bool {
+    let (dtype, all, values, bits) = array.into_inner();
+    no_fault_is_sound();
+    lists_are(
+        &BinaryArray::new(dtype, all, values, bits),
+        offsets,
+        BYTES,
+        flags,
+    )
 }
 
 // a share, and the lists that it hands back
@@ -333,7 +376,10 @@ fn share_is<O: Offset>(
     offsets: &[O],
     flags: Flags<'_>,
 ) -> Result<bool, PolarsError> {
-    Ok(is_handed_back(array.try_clone(alloc)?, offsets, flags))
+    Ok(
+        is_again(array.try_clone(alloc)?, offsets, flags)
+            && is_new_again(array.try_clone(alloc)?, offsets, flags),
+    )
 }
 
 pub fn four_are_shared(alloc: Global, flags: Flags<'_>) -> Result<bool, PolarsError> {
@@ -346,43 +392,30 @@ pub fn four_large_are_shared(alloc: Global) -> Result<bool, PolarsError> {
 
 // ---- other flags
 
-fn with_is(array: BinaryArray<i32>, bits: Bitmap, flags: &[bool]) -> bool {
-    bits.len() == array.len()
-        && lists_are(
-            &array.with_validity(Some(bits)),
-            &[1, 3, 4, 4, 6],
-            BYTES,
-            Some(flags),
-        )
-}
-
-fn set_is(array: BinaryArray<i32>, bits: Bitmap, flags: &[bool]) -> bool {
-    let mut array = array;
-    if bits.len() != array.len() {
-        return false;
+fn with_is(array: BinaryArray<i32>, bits: Option<Bitmap>, flags: Flags<'_>) -> bool {
+    match check_validity(bits.as_ref(), array.len()) {
+        Ok(()) => lists_are(&array.with_validity(bits), &[1, 3, 4, 4, 6], BYTES, flags),
+        Err(_) => false,
     }
-    array.set_validity(Some(bits));
-    lists_are(&array, &[1, 3, 4, 4, 6], BYTES, Some(flags))
 }
 
-pub fn four_take(alloc: Global, flags: &[bool], set: bool) -> Result<bool, PolarsError> {
-    let bits = Bitmap::from_bools(alloc, flags)?;
+fn set_is(array: BinaryArray<i32>, bits: Option<Bitmap>, flags: Flags<'_>) -> bool {
+    let mut array = array;
+    match check_validity(bits.as_ref(), array.len()) {
+        Ok(()) => array.set_validity(bits),
+        Err(_) => return false,
+    }
+    lists_are(&array, &[1, 3, 4, 4, 6], BYTES, flags)
+}
+
+pub fn four_take(alloc: Global, flags: Flags<'_>, set: bool) -> Result<bool, PolarsError> {
+    let bits = bitmap(alloc, flags)?;
     let array = four(alloc)?;
     Ok(if set {
         set_is(array, bits, flags)
     } else {
         with_is(array, bits, flags)
     })
-}
-
-pub fn without_is(array: BinaryArray<i32>) -> bool {
-    lists_are(&array.with_validity(None), &[1, 3, 4, 4, 6], BYTES, None)
-}
-
-pub fn unset_is(array: BinaryArray<i32>) -> bool {
-    let mut array = array;
-    array.set_validity(None);
-    lists_are(&array, &[1, 3, 4, 4, 6], BYTES, None)
 }
 
 pub fn taken_is(array: BinaryArray<i32>, flags: Flags<'_>) -> bool {

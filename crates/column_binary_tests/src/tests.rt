@@ -1,12 +1,11 @@
 //! The tests: each asserts what a check of `checks` says.
 
-use crate::cases::{Flags, four, four_large};
+use crate::cases::{Flags, first, four, four_large};
 use crate::checks::{
-    Call, Half, bounds_are, empty_is, ends_are_rows, ends_are_values, four_are_read,
-    four_are_shared, four_cut, four_give, four_large_are_read, four_large_are_shared,
-    four_large_cut, four_take, is_told, large_ends_are_rows, large_rows_are, large_valid_are,
-    new_is_whole, new_unchecked_is_whole, no_nulls_are, none_of_none_is, nulls_are, raw_is_told,
-    rows_are, slices_follow, taken_is, unset_is, valid_are, values_are, without_is,
+    Call, Half, bounds_are, empty_is, four_are_read, four_are_shared, four_cut, four_give,
+    four_large_are_read, four_large_are_shared, four_large_cut, four_take, is_told, large_rows_are,
+    large_values_are, no_nulls_are, none_of_none_is, nulls_are, one_row_is, one_valid_is,
+    one_value_is, raw_is_told, rows_are, slices_follow, taken_is, values_are,
 };
 use column_base::{ArrowDataType, Cause};
 use column_binary::{
@@ -121,13 +120,6 @@ fn the_first_fault_of_large_raw_lists_is_told(rt: HostRuntime) -> Result<(), Fai
 }
 
 #[test]
-fn arrays_of_sound_lists(rt: HostRuntime) -> Result<(), Fail> {
-    assert!(rt; new_is_whole(rt.alloc())?);
-    assert!(rt; new_unchecked_is_whole(rt.alloc())?);
-    Ok(())
-}
-
-#[test]
 fn arrays_without_bytes(rt: HostRuntime) -> Result<(), Fail> {
     assert!(rt; empty_is(rt.alloc())?);
     assert!(rt; no_nulls_are(rt.alloc())?);
@@ -141,22 +133,22 @@ fn arrays_without_bytes(rt: HostRuntime) -> Result<(), Fail> {
 fn four_slots_are_read(rt: HostRuntime) -> Result<(), Fail> {
     let array = four(rt.alloc())?;
     assert!(rt; four_are_read(&array));
-    assert!(rt; rows_are(&array, &[Some(b"ab"), None, Some(b""), Some(b"de")]));
-    assert!(rt; values_are(&array, &[b"ab", b"c", b"", b"de"]));
-    assert!(rt; valid_are(&array, &[b"ab", b"", b"de"]));
-    assert!(rt; ends_are_rows(&array, &[None, Some(b"")]));
+    assert!(rt; rows_are(&array) && values_are(&array));
     Ok(())
 }
 
 #[test]
 fn four_large_slots_are_read(rt: HostRuntime) -> Result<(), Fail> {
     let array = four_large(rt.alloc())?;
-    assert!(rt; four_large_are_read(&array));
-    assert!(rt; large_rows_are(&array, &[Some(b"ab"), Some(b"c"), Some(b""), Some(b"de")]));
-    assert!(rt; large_valid_are(&array, &[b"ab", b"c", b"", b"de"]));
-    assert!(rt; large_ends_are_rows(&array, &[Some(b"c"), Some(b"")]));
-    assert!(rt; ends_are_values(&array, &[b"c", b""]));
-    assert!(rt; bounds_are(&array));
+    assert!(rt; four_large_are_read(&array) && bounds_are(&array));
+    assert!(rt; large_rows_are(&array) && large_values_are(&array));
+    Ok(())
+}
+
+#[test]
+fn one_slot_is_given_once(rt: HostRuntime) -> Result<(), Fail> {
+    let array = first(rt.alloc())?;
+    assert!(rt; one_row_is(&array) && one_value_is(&array) && one_valid_is(&array));
     Ok(())
 }
 
@@ -193,6 +185,13 @@ fn the_slices_share_their_bytes(rt: HostRuntime) -> Result<(), Fail> {
 fn slices_follow_one_another(rt: HostRuntime) -> Result<(), Fail> {
     assert!(rt; slices_follow(rt.alloc())?);
     assert!(rt; none_of_none_is(rt.alloc())?);
+    slots_are_counted();
+    same_lists_same_slots();
+    flags_of_slice();
+    slice_is_part();
+    slot_of_slice();
+    slices_are_one();
+    split_is_whole();
     Ok(())
 }
 
@@ -239,22 +238,11 @@ fn lists_are_shared_and_handed_back(rt: HostRuntime) -> Result<(), Fail> {
 
 #[test]
 fn other_flags_stand_beside_the_same_bytes(rt: HostRuntime) -> Result<(), Fail> {
-    for (flags, set) in [([false; 4], false), ([true; 4], true)] {
-        assert!(rt; four_take(rt.alloc(), &flags, set)?);
+    let table: [Flags<'_>; 3] = [Some(&[false; 4]), Some(&[true; 4]), None];
+    for flags in table {
+        assert!(rt; four_take(rt.alloc(), flags, false)?);
+        assert!(rt; four_take(rt.alloc(), flags, true)?);
     }
-    assert!(rt; without_is(four(rt.alloc())?));
-    assert!(rt; unset_is(four(rt.alloc())?));
     assert!(rt; taken_is(four(rt.alloc())?, ALL));
     Ok(())
-}
-
-#[test]
-fn laws_are_called() {
-    slots_are_counted();
-    same_lists_same_slots();
-    flags_of_slice();
-    slice_is_part();
-    slot_of_slice();
-    slices_are_one();
-    split_is_whole();
 }

@@ -3,5 +3,4 @@
 mod bits;
 mod buffers;
 mod iterators;
-mod laws;
 mod validity;

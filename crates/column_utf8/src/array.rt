@@ -92,7 +92,8 @@ impl<O: Offset> Utf8Array<O> {
         values: Buffer<u8>,
         validity: Option<Bitmap>,
     ) -> Self
-        requires { text_array_fault (offset_lists offsets values validity) or_else type_fault O.IS_LARGE dtype ≡ None }
+        requires lists { text_array_fault (offset_lists offsets values validity) ≡ None }
+        requires own { type_fault O.IS_LARGE dtype ≡ None }
         ensures { result ≡ offset_lists offsets values validity }
     {
         match Utf8Array::try_new(dtype, offsets, values, validity) {

@@ -3,6 +3,11 @@ use crate::checks::validity::{
     nulls_are_counted, part_has, set_part_has_none, validity_is_shared,
 };
 use column_base::Cause;
+use column_storage::{
+    flags_of_part, no_fault_is_as_many, nulls_of_slots, rows_of_slots, same_flags_same_slots,
+    slot_is_flag_and_value, slot_of_slice, slots_are_values, slots_of_slice, slots_of_split,
+    slots_of_two_slices,
+};
 use std::test::Fail;
 
 #[test]
@@ -28,6 +33,12 @@ fn parts_have_their_nulls(rt: HostRuntime) -> Result<(), Fail> {
     assert!(rt; set_part_has_none(rt.alloc())?);
     assert!(rt; none_has_no_part());
     assert!(rt; nulls_are_counted(rt.alloc())?);
+    flags_of_part();
+    slots_of_slice();
+    slot_of_slice();
+    slots_of_two_slices();
+    slots_of_split();
+    nulls_of_slots();
     Ok(())
 }
 
@@ -38,6 +49,11 @@ fn a_validity_has_a_flag_for_each_slot(rt: HostRuntime) -> Result<(), Fail> {
     assert!(rt; length_is_checked(rt.alloc(), 4, Some(Cause::ValidityLength))?);
     assert!(rt; length_is_checked(rt.alloc(), 6, Some(Cause::ValidityLength))?);
     assert!(rt; flags_are_read(rt.alloc())?);
+    no_fault_is_as_many();
+    slots_are_values();
+    slot_is_flag_and_value();
+    same_flags_same_slots();
+    rows_of_slots();
     Ok(())
 }
 
