@@ -18,7 +18,7 @@ pub struct Lists<'a> {
     pub flags: Flags<'a>,
 }
 
-pub fn lists<'a>(offsets: &'a [usize], values: &'a [u8], flags: Flags<'a>) -> Lists<'a> {
+pub fn lists_of<'a>(offsets: &'a [usize], values: &'a [u8], flags: Flags<'a>) -> Lists<'a> {
     Lists {
         offsets,
         values,

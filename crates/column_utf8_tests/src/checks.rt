@@ -1,6 +1,6 @@
 //! What texts are seen to be: one truth value for each group of calls, and no assertion.
 
-use crate::cases::{FOUR, Flags, Lists, bitmap, byte_strings, four, lists, raw_texts, texts};
+use crate::cases::{FOUR, Flags, Lists, bitmap, byte_strings, four, lists_of, raw_texts, texts};
 use column_base::{ArrowDataType, Cause, Offset, PolarsError, Splitable};
 use column_binary::BinaryArray;
 use column_offset::OffsetsBuffer;
@@ -36,7 +36,7 @@ fn parts_are<O: Offset>(
 
 pub fn texts_are<O: Offset>(array: &Utf8Array<O>, wanted: Lists<'_>) -> bool {
     parts_are(array.offsets(), array.values(), array.validity(), wanted)
-        && array.len() + 1 == wanted.offsets.len()
+        && array.len() == wanted.offsets.len().saturating_sub(1)
         && array.is_empty() == (wanted.offsets.len() == 1)
 }
 
@@ -95,17 +95,20 @@ pub fn dtype_is<O: Offset>(array: &Utf8Array<O>, dtype: ArrowDataType) -> bool {
 
 pub fn empty_is<O: Offset>(alloc: Global) -> Result<bool, PolarsError> {
     let array = Utf8Array::<O>::new_empty(alloc, Utf8Array::<O>::default_dtype())?;
-    Ok(texts_are(&array, lists(&[0], b"", None)))
+    Ok(texts_are(&array, lists_of(&[0], b"", None)))
 }
 
 pub fn nulls_are<O: Offset>(alloc: Global) -> Result<bool, PolarsError> {
     let array = Utf8Array::<O>::new_null(alloc, Utf8Array::<O>::default_dtype(), 2)?;
-    Ok(texts_are(&array, lists(&[0, 0, 0], b"", Some(&[false, false]))) && array.null_count() == 2)
+    Ok(
+        texts_are(&array, lists_of(&[0, 0, 0], b"", Some(&[false, false])))
+            && array.null_count() == 2,
+    )
 }
 
 pub fn no_nulls_are(alloc: Global) -> Result<bool, PolarsError> {
     let array = Utf8Array::<i64>::new_null(alloc, ArrowDataType::LargeUtf8, 0)?;
-    Ok(texts_are(&array, lists(&[0], b"", Some(&[]))))
+    Ok(texts_are(&array, lists_of(&[0], b"", Some(&[]))))
 }
 
 // ---- taken apart, and put together again
@@ -246,7 +249,7 @@ pub fn slices_follow(alloc: Global) -> Result<bool, PolarsError> {
         array,
         Call::Sliced,
         (1, 2),
-        lists(&[4, 4, 8], FOUR.values, None),
+        lists_of(&[4, 4, 8], FOUR.values, None),
     ))
 }
 
@@ -283,7 +286,7 @@ pub fn halves_are<O: Offset>(
 // ---- other flags
 
 fn beside(flags: Flags<'_>) -> Lists<'_> {
-    lists(FOUR.offsets, FOUR.values, flags)
+    lists_of(FOUR.offsets, FOUR.values, flags)
 }
 
 pub fn with_is(alloc: Global, flags: Flags<'_>) -> Result<bool, PolarsError> {

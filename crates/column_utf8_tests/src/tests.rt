@@ -1,6 +1,6 @@
 //! The tests: each asserts what a check of `checks` says.
 
-use crate::cases::{FOUR, Flags, Lists, four, lists};
+use crate::cases::{FOUR, Flags, Lists, four, lists_of};
 use crate::checks::{
     Call, are_told, binary_is, dtype_is, dtype_is_refused, empty_is, ends_are_rows, four_give,
     halves_are, into_binary_is, is_handed_back, is_made_again, is_taken_again, large_rows_are,
@@ -61,7 +61,7 @@ fn texts_are_told_by_their_slots(rt: HostRuntime) {
         ),
     ];
     for (offsets, values, flags, cause) in table {
-        let lists = lists(offsets, values, flags);
+        let lists = lists_of(offsets, values, flags);
         assert!(rt; are_told(rt.alloc(), lists, true, cause), "{lists:?}");
     }
 }
@@ -93,7 +93,7 @@ fn the_first_refusal_is_told(rt: HostRuntime) {
         (&[0, 1, 2], b"ab", THREE, false, length),
     ];
     for (offsets, values, flags, is_own, cause) in table {
-        let lists = lists(offsets, values, flags);
+        let lists = lists_of(offsets, values, flags);
         assert!(rt;
             are_told(rt.alloc(), lists, is_own, Some(cause)),
             "{lists:?}"
@@ -147,7 +147,7 @@ fn sequences_are_those_of_the_standard(rt: HostRuntime) {
             Some(Cause::InvalidUtf8)
         };
         assert!(rt;
-            are_told(rt.alloc(), lists(&offsets, values, TWO), true, cause),
+            are_told(rt.alloc(), lists_of(&offsets, values, TWO), true, cause),
             "{values:?}"
         );
     }
@@ -187,7 +187,7 @@ fn the_first_fault_of_raw_lists_is_told(rt: HostRuntime) -> Result<(), Fail> {
         (&[0, 1, 2], b"ab", ONE, Some(Cause::ValidityLength)),
     ];
     for (offsets, values, flags, cause) in table {
-        let lists = lists(offsets, values, flags);
+        let lists = lists_of(offsets, values, flags);
         assert!(rt; raw_are_told(rt.alloc(), lists, cause)?, "{lists:?}");
     }
     Ok(())
@@ -257,7 +257,7 @@ fn the_slices_share_their_bytes(rt: HostRuntime) -> Result<(), Fail> {
         Call::SliceUnchecked,
     ];
     for (range, offsets, flags) in table {
-        let wanted = lists(offsets, FOUR.values, flags);
+        let wanted = lists_of(offsets, FOUR.values, flags);
         for call in calls {
             assert!(rt;
                 four_give::<i32>(rt.alloc(), call, range, wanted)?,
@@ -276,8 +276,8 @@ fn the_slices_share_their_bytes(rt: HostRuntime) -> Result<(), Fail> {
 #[test]
 fn texts_are_cut_in_two(rt: HostRuntime) -> Result<(), Fail> {
     let array = four::<i32>(rt.alloc())?;
-    let front = lists(&[1, 3, 4], FOUR.values, TWO);
-    let back = lists(&[4, 4, 8], FOUR.values, None);
+    let front = lists_of(&[1, 3, 4], FOUR.values, TWO);
+    let back = lists_of(&[4, 4, 8], FOUR.values, None);
     assert!(rt; halves_are(rt.alloc(), &array, (2, false), front, back)?);
     assert!(rt; halves_are(rt.alloc(), &array, (2, true), front, back)?);
     assert!(rt; !halves_are(rt.alloc(), &array, (5, false), front, back)?);
@@ -292,7 +292,7 @@ fn texts_are_cut_at_their_ends(rt: HostRuntime) -> Result<(), Fail> {
             rt.alloc(),
             &array,
             (0, false),
-            lists(&[1], FOUR.values, None),
+            lists_of(&[1], FOUR.values, None),
             FOUR
         )?
     );
@@ -302,7 +302,7 @@ fn texts_are_cut_at_their_ends(rt: HostRuntime) -> Result<(), Fail> {
             &array,
             (4, true),
             FOUR,
-            lists(&[8], FOUR.values, None)
+            lists_of(&[8], FOUR.values, None)
         )?
     );
     Ok(())
@@ -324,7 +324,7 @@ fn other_flags_stand_beside_the_same_bytes(rt: HostRuntime) -> Result<(), Fail> 
 
 #[test]
 fn texts_are_byte_strings(rt: HostRuntime) -> Result<(), Fail> {
-    let part = lists(&[3, 4, 4], FOUR.values, Some(&[false, true]));
+    let part = lists_of(&[3, 4, 4], FOUR.values, Some(&[false, true]));
     assert!(rt; into_binary_is(four::<i32>(rt.alloc())?, (0, 4), FOUR));
     assert!(rt; into_binary_is(four::<i64>(rt.alloc())?, (1, 2), part));
     Ok(())
@@ -333,9 +333,9 @@ fn texts_are_byte_strings(rt: HostRuntime) -> Result<(), Fail> {
 #[test]
 fn byte_strings_are_texts_or_come_back(rt: HostRuntime) -> Result<(), Fail> {
     let (invalid, boundary) = (Some(Cause::InvalidUtf8), Some(Cause::CharBoundary));
-    let null_last = lists(&[0, 1, 2], b"a\xFF", TWO);
-    let cut = lists(&[0, 1, 2, 3], b"\xC3\xA9a", Some(&[false, false, true]));
-    let valid = lists(&[1, 2, 3], b"\x80\xC3\xA9\x80", None);
+    let null_last = lists_of(&[0, 1, 2], b"a\xFF", TWO);
+    let cut = lists_of(&[0, 1, 2, 3], b"\xC3\xA9a", Some(&[false, false, true]));
+    let valid = lists_of(&[1, 2, 3], b"\x80\xC3\xA9\x80", None);
     // the lists, from, length, and of the slice the cause, the offsets and the flags
     let table: [(
         Lists<'_>,
@@ -368,7 +368,7 @@ fn byte_strings_are_texts_or_come_back(rt: HostRuntime) -> Result<(), Fail> {
         (valid, 1, 1, invalid, &[2, 3], None),
     ];
     for (lists, from, length, cause, offsets, flags) in table {
-        let wanted = crate::cases::lists(offsets, lists.values, flags);
+        let wanted = lists_of(offsets, lists.values, flags);
         let range = (from, length);
         assert!(rt;
             slice_is_converted::<i32>(rt.alloc(), lists, range, cause, wanted)?,
