@@ -1,19 +1,19 @@
 -- Columns that are well formed, and their parts, by layout.
-use Rattle.std.proofs.Common.{◌≡◌, ℕ, ◌+◌, ◌≤◌, ℤ, pos, ◌≤ℤ◌, Bool, true, false, List, length, take, None, Some, refl, sym, ◌∙◌, ap, arith}
+use Rattle.std.proofs.Common.{◌≡◌, ◌↔◌, ℕ, ◌+◌, ◌≤◌, ℤ, pos, ◌≤ℤ◌, Bool, true, false, List, length, take, None, Some, refl, sym, ◌∙◌, ap, arith}
 use Rattle.std.proofs.Math.Seq.{take-length}
 use Rattle.column_base.specs.Integers.{greatest_offset}
 use Rattle.column_base.specs.Lists.{sublist}
 use Rattle.column_base.proofs.AnswersLemmas.{first_none}
 use Rattle.column_storage.specs.Bits.{flags_of}
 use Rattle.column_offset.specs.Offsets.{last_of, offsets_fault}
-use Rattle.column_offset.proofs.OffsetsLemmas.{sound_where_no_fault as sound_offsets}
+use Rattle.column_offset.proofs.OffsetsLemmas.{sound_where_no_fault as sound_offsets, no_fault_where_sound}
 use Rattle.column_binary.specs.Slots.{OffsetLists, offset_lists, slot_count, sliced_lists, array_fault, AreSoundLists}
 use Rattle.column_binary.proofs.SlotsLemmas as binary
 use Rattle.column_binary.proofs.SlotsLemmas.{length-offset_slots, offsets_are, flags_are, flags-sliced, slices_are_one}
 use Rattle.column_utf8.specs.Texts.{text_array_fault, AreSoundTexts}
 use Rattle.column_utf8.proofs.TextsLemmas as texts
 use Rattle.column_relayout.specs.Kinds.{is_text, is_binary, text_kind, binary_kind, offset_kind}
-use Rattle.column_relayout.specs.Columns.{RawLists, offset_column, column_kind, slots_of, count_of, parts_fault, AreSound, IsWellFormed, part_of, retyped}
+use Rattle.column_relayout.specs.Columns.{RawLists, offset_column, column_kind, slots_of, count_of, parts_fault, AreSound, IsWithinType, IsWellFormed, part_of, retyped}
 use Rattle.column_relayout.specs.Cuts.{as_read}
 
 -- ---- kinds
@@ -62,6 +62,24 @@ sound_where_no_fault (offset_column large false lists) none =
 sound_where_no_fault (offset_column large true lists) none =
     let both = first_none (offsets_fault lists.offsets) (text_array_fault lists) none in
     ((texts.no_fault_is_sound lists (sound_offsets lists.offsets both.0)).0 both.1).sound
+
+no_fault_where_formed : (column : RawLists) → IsWellFormed column → parts_fault column ≡ None
+no_fault_where_formed (offset_column large false lists) formed =
+    let sound = formed.sound.sound in
+    rw (no_fault_where_sound lists.offsets sound) ((binary.no_fault_is_sound lists sound).1 formed.sound)
+no_fault_where_formed (offset_column large true lists) formed =
+    let sound = formed.sound.sound in
+    let read : AreSoundTexts lists = record { sound = formed.sound; texts = formed.texts (text_is large true) } in
+    rw (no_fault_where_sound lists.offsets sound) ((texts.no_fault_is_sound lists sound).1 read)
+
+formed_where_no_fault : (column : RawLists) → IsWithinType column → parts_fault column ≡ None → IsWellFormed column
+formed_where_no_fault (offset_column large false lists) within none = bytes_well_formed large lists (sound_where_no_fault (offset_column large false lists) none) within
+formed_where_no_fault (offset_column large true lists) within none =
+    let both = first_none (offsets_fault lists.offsets) (text_array_fault lists) none in
+    texts_well_formed large lists ((texts.no_fault_is_sound lists (sound_offsets lists.offsets both.0)).0 both.1) within
+
+pub no_fault_is_well_formed : (column : RawLists) → IsWithinType column → (parts_fault column ≡ None) ↔ IsWellFormed column
+no_fault_is_well_formed column within = (formed_where_no_fault column within, no_fault_where_formed column)
 
 -- ---- parts
 

@@ -51,7 +51,8 @@ binary_kind kinds.Utf8_64 = kinds.Binary64
 binary_kind kinds.Utf8View = kinds.BinView
 binary_kind kind = kind
 
--- The kind of lists with offsets, which have 64 bits where they are large: of texts, or of byte strings.
+-- The kind of lists with offsets, which have 64 bits where the first flag is true and 32 else: of texts where the second
+-- is, and of byte strings else.
 abbrev pub offset_kind : Bool → Bool → ColumnKind
 offset_kind false false = kinds.Binary32
 offset_kind false true = kinds.Utf8_32

@@ -17,38 +17,32 @@ use column_utf8::Utf8Array;
 pub fn assemble(parts: RawColumn) -> Result<AnyArray, Cause>
     ensures answer { let lists = lists_of_parts parts in GivesCause result (parts_fault lists) (λ column. (lists_of column ≡ lists) × IsWellFormed lists) }
 {
-    let column = assembled(parts)?;
+    let column = match parts {
+        RawColumn::Offset32 {
+            text: false,
+            offsets,
+            values,
+            validity,
+        } => AnyArray::Binary32(BinaryArray::try_from_parts(offsets, values, validity)?),
+        RawColumn::Offset32 {
+            text: true,
+            offsets,
+            values,
+            validity,
+        } => AnyArray::Utf8_32(Utf8Array::try_from_parts(offsets, values, validity)?),
+        RawColumn::Offset64 {
+            text: false,
+            offsets,
+            values,
+            validity,
+        } => AnyArray::Binary64(BinaryArray::try_from_parts(offsets, values, validity)?),
+        RawColumn::Offset64 {
+            text: true,
+            offsets,
+            values,
+            validity,
+        } => AnyArray::Utf8_64(Utf8Array::try_from_parts(offsets, values, validity)?),
+    };
     column.known();
     Ok(column)
-}
-
-fn assembled(parts: RawColumn) -> Result<AnyArray, Cause>
-    ensures { let lists = lists_of_parts parts in GivesCause result (parts_fault lists) (λ column. lists_of column ≡ lists) }
-{
-    match parts {
-        RawColumn::Offset32 {
-            text: false,
-            offsets,
-            values,
-            validity,
-        } => Ok(AnyArray::Binary32(BinaryArray::try_from_parts(offsets, values, validity)?)),
-        RawColumn::Offset32 {
-            text: true,
-            offsets,
-            values,
-            validity,
-        } => Ok(AnyArray::Utf8_32(Utf8Array::try_from_parts(offsets, values, validity)?)),
-        RawColumn::Offset64 {
-            text: false,
-            offsets,
-            values,
-            validity,
-        } => Ok(AnyArray::Binary64(BinaryArray::try_from_parts(offsets, values, validity)?)),
-        RawColumn::Offset64 {
-            text: true,
-            offsets,
-            values,
-            validity,
-        } => Ok(AnyArray::Utf8_64(Utf8Array::try_from_parts(offsets, values, validity)?)),
-    }
 }

@@ -1,11 +1,16 @@
-//! Laws of plans.
+//! Laws of raw columns and of plans.
 
-ghost use Rattle.std.specs.Prelude.{◌≡◌, None, List, [], ◌∷◌, ◌++◌};
+ghost use Rattle.std.specs.Prelude.{◌≡◌, ◌↔◌, None, List, [], ◌∷◌, ◌++◌};
 ghost use Rattle.column_relayout.specs.declared.steps.Step.{Step};
-ghost use Rattle.column_relayout.specs.Columns.{RawLists, column_kind, slots_of, parts_fault};
+ghost use Rattle.column_relayout.specs.Columns.{RawLists, column_kind, slots_of, parts_fault, IsWithinType, IsWellFormed};
 ghost use Rattle.column_relayout.specs.Plans.{leads, plan_meaning, IsLight, light_lists};
 ghost use Rattle.column_relayout.specs.Steps.{StepsTo, Relays};
 ghost use Rattle.column_relayout.specs.Cuts.{cut_once, as_read};
+
+/// Law of well-formedness: over lists within their type no fault is found exactly where they are well formed.
+pub fn no_fault_is_well_formed()
+    ensures { (column : RawLists) → IsWithinType column → (parts_fault column ≡ None) ↔ IsWellFormed column }
+{}
 
 /// The column has the kind and the slots that the plan means.
 pub fn relays_lead()

@@ -18,7 +18,7 @@ pub use cut::{step_left, step_right, step_slice};
 pub use kind::Kind;
 pub use laws::{
     last_step_after_light_ones, last_step_is_taken, light_plans_cut, light_plans_cut_once,
-    relays_lead,
+    no_fault_is_well_formed, relays_lead,
 };
 pub use plan::relayout;
 pub use steps::Step;
