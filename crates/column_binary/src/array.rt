@@ -107,7 +107,7 @@ impl<O: Offset> BinaryArray<O> {
         }
     }
 
-    /// The same as [`BinaryArray::new`], without a look at the lists.
+    /// The column of these sound lists, without a look at them. Takes no memory.
     pub fn new_unchecked(
         dtype: ArrowDataType,
         offsets: OffsetsBuffer<O>,
@@ -330,17 +330,9 @@ impl<O: Offset> BinaryArray<O> {
         requires { offset + length ≤ slot_count self }
         ensures { IsPart self offset length result }
     {
-        let BinaryArray {
-            mut offsets,
-            values,
-            validity,
-        } = self;
-        offsets.slice(offset, length + 1);
-        BinaryArray {
-            offsets,
-            values,
-            validity: slice_validity(validity, offset, length),
-        }
+        let mut array = self;
+        array.slice(offset, length);
+        array
     }
 
     /// The same as [`BinaryArray::sliced`].
@@ -371,7 +363,7 @@ impl<O: Offset> BinaryArray<O> {
 }
 
 impl<O: Offset> Splitable for BinaryArray<O> {
-    ghost use Rattle.std.specs.Prelude.{◌≡◌, ◌-◌, ◌≤◌, None, IfOk};
+    ghost use Rattle.std.specs.Prelude.{◌-◌, ◌≤◌, None};
     ghost use Rattle.column_base.specs.Answers.{Answers};
     ghost use Rattle.column_binary.specs.Slots.{slot_count, sliced_lists, IsPart};
 
@@ -387,8 +379,7 @@ impl<O: Offset> Splitable for BinaryArray<O> {
 
     fn split_at(&self, alloc: Global, offset: usize) -> Result<(Self, Self), PolarsError>
         requires { offset ≤ slot_count self.now }
-        ensures answer { Answers result None (λ parts. (parts.0 ≡ sliced_lists self.now 0 offset) × (parts.1 ≡ sliced_lists self.now offset (slot_count self.now - offset))) }
-        ensures parts { IfOk result (λ parts. IsPart self.now 0 offset parts.0 × IsPart self.now offset (slot_count self.now - offset) parts.1) }
+        ensures { Answers result None (λ parts. IsPart self.now 0 offset parts.0 × IsPart self.now offset (slot_count self.now - offset) parts.1) }
     {
         let front = self.try_clone(alloc)?.sliced(0, offset);
         let back = self.try_clone(alloc)?.sliced(offset, self.len() - offset);

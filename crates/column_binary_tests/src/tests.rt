@@ -79,8 +79,9 @@ fn no_other_data_type_is_taken(rt: HostRuntime) {
 fn the_first_fault_of_raw_lists_is_told(rt: HostRuntime) -> Result<(), Fail> {
     let one: Flags<'_> = Some(&[true]);
     // over three bytes
-    let table: [(&[i32], Flags<'_>, Option<Cause>); 10] = [
+    let table: [(&[i32], Flags<'_>, Option<Cause>); 11] = [
         (&[0], None, None),
+        (&[0, 0], None, None),
         (&[1, 3], one, None),
         (&[], one, Some(Cause::OffsetsEmpty)),
         (&[-1, 0], None, Some(Cause::OffsetsNegative)),
