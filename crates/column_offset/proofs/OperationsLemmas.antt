@@ -4,6 +4,7 @@ use Rattle.std.specs.Prelude.{◌+ℤ◌, sum, MatchOption, Option, Some, None, 
 use Rattle.std.proofs.lemmas.Int.{ints}
 use Rattle.std.proofs.lemmas.List.{drop_more, take_all}
 use Rattle.std.proofs.Math.Seq.{take-append_seam}
+use Rattle.std.specs.List.{fold}
 use Rattle.column_base.specs.declared.errors.PolarsError.{PolarsError}
 use Rattle.column_base.specs.declared.errors.Cause.{Cause}
 use Rattle.column_base.specs.Answers.{Answers, ◌or_else◌}
@@ -11,7 +12,7 @@ use Rattle.column_offset.specs.declared.operations.OffsetsOperation.{OffsetsOper
 use Rattle.column_offset.specs.declared.operations.OffsetsOperation.TheVariants.{Push, Pop}
 use Rattle.column_offset.specs.Offsets.{last_of}
 use Rattle.column_offset.specs.Growth.{pushed, extended, limit_fault}
-use Rattle.column_offset.specs.Operations.{lengths_after, lengths_left, operation_fault, operations_fault}
+use Rattle.column_offset.specs.Operations.{lengths_after, operation_fault, operations_fault}
 use Rattle.column_offset.proofs.GrowthLemmas.{extended-snoc, last_of-extended, take-extended, length-extended}
 
 -- ---- one operation
@@ -53,7 +54,7 @@ popped_of f (Some last) lengths old new is popped =
 pub record Replays (greatest : ℕ) (all : List OffsetsOperation) (i : ℕ) (offsets : List ℤ) : Type 0 where
   pub lengths : List ℕ
   pub made : offsets ≡ extended (pos 0 ∷ []) lengths
-  pub left : lengths_left lengths (drop i all) ≡ lengths_left [] all
+  pub left : fold lengths_after lengths (drop i all) ≡ fold lengths_after [] all
   pub fault : operations_fault greatest lengths (drop i all) ≡ operations_fault greatest [] all
 
 -- one operation on
@@ -65,7 +66,7 @@ replays_more greatest all i offsets new d at within fine made =
     record {
       lengths = next;
       made = made;
-      left = ap (lengths_left at.lengths) (sym here) ∙ at.left;
+      left = ap (fold lengths_after at.lengths) (sym here) ∙ at.left;
       fault = ap (λ (first : Option Cause). first or_else operations_fault greatest next (drop (i + 1) all)) (sym fine) ∙ ap (operations_fault greatest at.lengths) (sym here) ∙ at.fault;
     }
 

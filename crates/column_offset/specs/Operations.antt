@@ -1,20 +1,15 @@
--- Operations on growing offsets: this library's own.
+-- What an operation leaves of the lengths of slots: this library's own. Operations in a row leave the fold.
 use Rattle.std.specs.Prelude.{ℕ, ◌+◌, ◌-◌, pos, List, [], ◌∷◌, ◌++◌, length, take, sum, Option, None}
-use Rattle.std.specs.List.{fold}
 use Rattle.column_base.specs.declared.errors.Cause.{Cause}
 use Rattle.column_base.specs.Answers.{◌or_else◌}
 use Rattle.column_offset.specs.declared.operations.OffsetsOperation.{OffsetsOperation}
 use Rattle.column_offset.specs.declared.operations.OffsetsOperation.TheVariants.{Push, Pop}
 use Rattle.column_offset.specs.Growth.{limit_fault}
 
--- the lengths of the slots after an operation: a push adds one, a pop takes the last one, where there is one
+-- the lengths after an operation; where there is none, none is taken
 abbrev pub lengths_after : List ℕ → OffsetsOperation → List ℕ
 lengths_after lengths (Push n) = lengths ++ n ∷ []
 lengths_after lengths Pop = take (length lengths - 1) lengths
-
--- the lengths that operations leave
-abbrev pub lengths_left : List ℕ → List OffsetsOperation → List ℕ
-lengths_left lengths operations = fold lengths_after lengths operations
 
 -- why an operation is refused
 abbrev pub operation_fault : ℕ → List ℕ → OffsetsOperation → Option Cause

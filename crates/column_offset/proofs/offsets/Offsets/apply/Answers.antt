@@ -1,6 +1,6 @@
 use Rattle.std.proofs.Common.{refl}
 use Rattle.column_offset.proofs.OperationsLemmas.{push_answers, popped_of}
-use Rattle.column_offset.proofs.operations.apply.Goals as goal
+use Rattle.column_offset.proofs.offsets.Offsets.apply.Goals as goal
 
 pub returns-in-Push : goal.returns-in-Push
 returns-in-Push g c = λ lengths made. rw c.in-Push.is (push_answers _ c.try_push.result lengths _ _ c.in-Push.length made c.try_push.ensures.answer)
