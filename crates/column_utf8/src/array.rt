@@ -102,7 +102,7 @@ impl<O: Offset> Utf8Array<O> {
         }
     }
 
-    /// The same as [`Utf8Array::new`], without a look at the lists.
+    /// The column of these sound texts, without a look at them. Takes no memory.
     pub fn new_unchecked(
         dtype: ArrowDataType,
         offsets: OffsetsBuffer<O>,
@@ -359,7 +359,7 @@ impl<O: Offset> Utf8Array<O> {
 }
 
 impl<O: Offset> Splitable for Utf8Array<O> {
-    ghost use Rattle.std.specs.Prelude.{◌≡◌, ◌-◌, ◌≤◌, None, IfOk};
+    ghost use Rattle.std.specs.Prelude.{◌-◌, ◌≤◌, None, IfOk};
     ghost use Rattle.column_base.specs.Answers.{Answers};
     ghost use Rattle.column_binary.specs.Slots.{slot_count, sliced_lists, IsPart};
     ghost use Rattle.column_utf8.specs.Texts.{AreSoundTexts};
@@ -376,8 +376,7 @@ impl<O: Offset> Splitable for Utf8Array<O> {
 
     fn split_at(&self, alloc: Global, offset: usize) -> Result<(Self, Self), PolarsError>
         requires { offset ≤ slot_count self.now }
-        ensures answer { Answers result None (λ parts. (parts.0 ≡ sliced_lists self.now 0 offset) × (parts.1 ≡ sliced_lists self.now offset (slot_count self.now - offset))) }
-        ensures parts { IfOk result (λ parts. IsPart self.now 0 offset parts.0 × IsPart self.now offset (slot_count self.now - offset) parts.1) }
+        ensures parts { Answers result None (λ parts. IsPart self.now 0 offset parts.0 × IsPart self.now offset (slot_count self.now - offset) parts.1) }
         ensures texts { IfOk result (λ parts. AreSoundTexts parts.0 × AreSoundTexts parts.1) }
     {
         let front = self.try_clone(alloc)?.sliced(0, offset);

@@ -1,5 +1,7 @@
 //! What texts are seen to be: one truth value for each group of calls, and no assertion.
 
+ghost use Rattle.std.specs.Prelude.{◌≤◌};
+
 use crate::cases::{FOUR, Flags, Lists, bitmap, byte_strings, four, lists_of, raw_texts, texts};
 use column_base::{ArrowDataType, Cause, Offset, PolarsError, Splitable};
 use column_binary::BinaryArray;
