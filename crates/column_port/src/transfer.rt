@@ -104,7 +104,7 @@ pub fn read_within<S: Source>(
 
     // What left the source, and its count of faults.
     ensures past { OnTooLong result (Gave (S.left source.old) (S.left source.new) (limit + 1)) }
-    ensures stopped { OnErr result (GaveAtMost (S.left source.old) (S.left source.new) (limit + 1)) }
+    ensures stopped { GaveAtMost (S.left source.old) (S.left source.new) (limit + 1) }
     ensures counts { S.faults source.new ≡ counted_reading (S.faults source.old) result }
     ensures later { S.faults source.old ≤ S.faults source.new }
 {

@@ -1,4 +1,3 @@
 pub mod TextLemmas
-pub mod DocumentsLemmas
 pub mod RepliesLemmas
 pub mod WordsLemmas

@@ -8,11 +8,10 @@ use Rattle.column_relayout.specs.Arrays.{lists_of}
 use Rattle.column_relayout.specs.Plans.{Meaning, plan_meaning}
 use Rattle.column_relayout.specs.Relayouts.{IsAnswered, Relayouts}
 use Rattle.column_document.specs.declared.field.DocFault.{DocFault}
-use Rattle.column_document.specs.Document.{Document}
+use Rattle.column_document.specs.Document.{Document, document_in}
 use Rattle.column_tool.specs.declared.outcome.Outcome.{Outcome}
-use Rattle.column_tool.specs.declared.outcome.Outcome.TheVariants.{Done, Refused, BadDocument, Usage, ReadFault, WriteFault, TooLong, NoMemory}
+use Rattle.column_tool.specs.declared.outcome.Outcome.TheVariants.{Done, Refused, BadDocument}
 use Rattle.column_tool.specs.Text.{printed, refusal_line}
-use Rattle.column_tool.specs.Documents.{document_in}
 use Rattle.column_tool.specs.Replies.{parts_in, IsReply, IsColumnText, IsDueAfter, IsDue, AnswersAfter, AnswersExactly}
 
 -- ---- the text
@@ -44,11 +43,7 @@ is_due bytes (Refused refusal) text reply =
     let refused = reply.0 in
     subst (λ (said : Result Document DocFault). IsDue said text) (sym refused.read) (due_of_refusal refused.document refusal text refused.refused refused.cause reply.1)
 is_due bytes (BadDocument fault) text reply = subst (λ (said : Result Document DocFault). IsDue said text) (sym reply.0) reply.1
-is_due bytes Usage text reply = absurd reply
-is_due bytes ReadFault text reply = absurd reply
-is_due bytes WriteFault text reply = absurd reply
-is_due bytes TooLong text reply = absurd reply
-is_due bytes NoMemory text reply = absurd reply
+is_due bytes outcome text reply = absurd reply
 
 -- ---- the outcome
 
@@ -72,10 +67,6 @@ is_exact bytes (Refused refusal) text reply =
     let refused = reply.0 in
     subst (λ (said : Result Document DocFault). AnswersExactly said (Refused refusal)) (sym refused.read) (exact_of_refusal refused.document refusal refused.refused refused.cause)
 is_exact bytes (BadDocument fault) text reply = subst (λ (said : Result Document DocFault). AnswersExactly said (BadDocument fault)) (sym reply.0) (inl refl)
-is_exact bytes Usage text reply = absurd reply
-is_exact bytes ReadFault text reply = absurd reply
-is_exact bytes WriteFault text reply = absurd reply
-is_exact bytes TooLong text reply = absurd reply
-is_exact bytes NoMemory text reply = absurd reply
+is_exact bytes outcome text reply = absurd reply
 
 pub ruleset reply_laws = (is_due, is_exact)

@@ -1,5 +1,4 @@
 pub mod Text
-pub mod Documents
 pub mod Outcomes
 pub mod Ends
 pub mod Replies

@@ -1,9 +1,8 @@
 -- How a run ends. This library's own.
 use Rattle.std.specs.Prelude.{ℕ, ⊤}
-use Rattle.column_relayout.specs.declared.columns.ColumnError.{ColumnError}
+use Rattle.column_port.specs.Causes.{one_more}
 use Rattle.column_relayout.specs.Columns.{RawLists}
 use Rattle.column_relayout.specs.Arrays.{lists_of}
-use Rattle.column_document.specs.declared.field.DocFault.{DocFault}
 use Rattle.column_tool.specs.declared.outcome.Outcome.{Outcome}
 use Rattle.column_tool.specs.declared.outcome.Outcome.TheVariants.{Done, Refused, BadDocument, Usage, ReadFault, WriteFault, TooLong, NoMemory}
 
@@ -21,65 +20,36 @@ status_of NoMemory = 7
 -- the fact, of the lists of the column that was done
 abbrev pub IfDone : Outcome → (RawLists → Type 0) → Type 0
 IfDone (Done column) P = P (lists_of column)
-IfDone (Refused refusal) P = ⊤
-IfDone (BadDocument fault) P = ⊤
-IfDone Usage P = ⊤
-IfDone ReadFault P = ⊤
-IfDone WriteFault P = ⊤
-IfDone TooLong P = ⊤
-IfDone NoMemory P = ⊤
-
--- the fact, of the refusal of parts or of a step
-abbrev pub IfRefused : Outcome → (ColumnError → Type 0) → Type 0
-IfRefused (Done column) P = ⊤
-IfRefused (Refused refusal) P = P refusal
-IfRefused (BadDocument fault) P = ⊤
-IfRefused Usage P = ⊤
-IfRefused ReadFault P = ⊤
-IfRefused WriteFault P = ⊤
-IfRefused TooLong P = ⊤
-IfRefused NoMemory P = ⊤
-
--- the fact, of the fault of a document
-abbrev pub IfBadDocument : Outcome → (DocFault → Type 0) → Type 0
-IfBadDocument (Done column) P = ⊤
-IfBadDocument (Refused refusal) P = ⊤
-IfBadDocument (BadDocument fault) P = P fault
-IfBadDocument Usage P = ⊤
-IfBadDocument ReadFault P = ⊤
-IfBadDocument WriteFault P = ⊤
-IfBadDocument TooLong P = ⊤
-IfBadDocument NoMemory P = ⊤
+IfDone outcome P = ⊤
 
 -- The run ended well, or memory was wanting.
 abbrev pub IsDoneOrNoMemory : Outcome → Type 0
 IsDoneOrNoMemory (Done column) = ⊤
-IsDoneOrNoMemory (Refused refusal) = ⊥
-IsDoneOrNoMemory (BadDocument fault) = ⊥
-IsDoneOrNoMemory Usage = ⊥
-IsDoneOrNoMemory ReadFault = ⊥
-IsDoneOrNoMemory WriteFault = ⊥
-IsDoneOrNoMemory TooLong = ⊥
 IsDoneOrNoMemory NoMemory = ⊤
+IsDoneOrNoMemory outcome = ⊥
 
 -- The run ended well, or an end failed, or memory was wanting.
 abbrev pub MayEndSound : Outcome → Type 0
 MayEndSound (Done column) = ⊤
-MayEndSound (Refused refusal) = ⊥
-MayEndSound (BadDocument fault) = ⊥
-MayEndSound Usage = ⊥
 MayEndSound ReadFault = ⊤
 MayEndSound WriteFault = ⊤
-MayEndSound TooLong = ⊥
 MayEndSound NoMemory = ⊤
+MayEndSound outcome = ⊥
 
 -- An outcome before which nothing is written.
 abbrev pub IsSilent : Outcome → Type 0
-IsSilent (Done column) = ⊥
-IsSilent (Refused refusal) = ⊥
-IsSilent (BadDocument fault) = ⊥
 IsSilent Usage = ⊤
 IsSilent ReadFault = ⊤
-IsSilent WriteFault = ⊥
 IsSilent TooLong = ⊤
 IsSilent NoMemory = ⊤
+IsSilent outcome = ⊥
+
+-- how often the source has failed after a run: once more where a read ended it, and else as often as before
+abbrev pub failed_reads : ℕ → Outcome → ℕ
+failed_reads before ReadFault = one_more before
+failed_reads before outcome = before
+
+-- how often the sink has failed after a run: once more where a write ended it, and else as often as before
+abbrev pub failed_writes : ℕ → Outcome → ℕ
+failed_writes before WriteFault = one_more before
+failed_writes before outcome = before

@@ -9,19 +9,18 @@ use Rattle.column_relayout.specs.Arrays.{lists_of, lists_of_parts}
 use Rattle.column_relayout.specs.Plans.{Meaning, leads, faults, plan_meaning, IsLight, light_lists}
 use Rattle.column_relayout.specs.Relayouts.{IsAnswered, Relayouts}
 use Rattle.column_document.specs.declared.field.DocFault.{DocFault}
-use Rattle.column_document.specs.Document.{Document}
+use Rattle.column_document.specs.Document.{Document, document_in}
 use Rattle.column_tool.specs.declared.outcome.Outcome.{Outcome}
-use Rattle.column_tool.specs.declared.outcome.Outcome.TheVariants.{Done, Refused, BadDocument, Usage, ReadFault, WriteFault, TooLong, NoMemory}
+use Rattle.column_tool.specs.declared.outcome.Outcome.TheVariants.{Done, Refused, BadDocument, NoMemory}
 use Rattle.column_tool.specs.Outcomes.{IsDoneOrNoMemory}
-use Rattle.column_tool.specs.Text.{printed, refusal_line}
-use Rattle.column_tool.specs.Documents.{document_in, fault_line}
+use Rattle.column_tool.specs.Text.{printed, refusal_line, fault_line}
 
 -- the raw lists of a document's parts
 abbrev pub parts_in : Document → RawLists
 parts_in document = lists_of_parts document.parts
 
--- The document of these bytes leads to this column: it is well formed, its kind and slots are the plan's meaning, and
--- a light plan keeps the parts' lists, cut.
+-- The document of these bytes leads to this column: it is well formed, its kind and slots are the plan's meaning, each
+-- step left what it promises, and a light plan keeps the parts' lists, cut.
 pub record IsMadeOf (bytes : List ℕ) (column : RawLists) : Type 0 where
   pub document : Document
   pub read : document_in bytes ≡ Ok document
@@ -39,11 +38,7 @@ abbrev pub IsReply : List ℕ → Outcome → List ℕ → Type 0
 IsReply bytes (Done column) text = IsMadeOf bytes (lists_of column) × (text ≡ printed (lists_of column))
 IsReply bytes (Refused refusal) text = IsRefusedWith bytes refusal × (text ≡ refusal_line refusal)
 IsReply bytes (BadDocument fault) text = (document_in bytes ≡ Err fault) × (text ≡ fault_line fault)
-IsReply bytes Usage text = ⊥
-IsReply bytes ReadFault text = ⊥
-IsReply bytes WriteFault text = ⊥
-IsReply bytes TooLong text = ⊥
-IsReply bytes NoMemory text = ⊥
+IsReply bytes outcome text = ⊥
 
 -- ---- the text that is due
 
@@ -54,6 +49,7 @@ pub record IsColumnText (parts : RawLists) (document : Document) (text : List �
   pub is : text ≡ printed column
   pub light : IsLight document.plan → text ≡ printed (light_lists parts document.plan)
 
+-- the text for a document whose parts have this fault, if any, and whose plan has this meaning
 abbrev pub IsDueAfter : Document → Option Cause → Meaning → List ℕ → Type 0
 IsDueAfter document (Some cause) meaning text = text ≡ refusal_line (refusals.Parts cause)
 IsDueAfter document None (faults at cause) text = text ≡ refusal_line (refusals.Step at cause)
@@ -67,6 +63,7 @@ IsDue (Ok document) text = IsDueAfter document (parts_fault (parts_in document))
 
 -- ---- the outcome that is due
 
+-- the outcome for parts of this fault, if any, and a plan of this meaning; or memory was wanting
 abbrev pub AnswersAfter : Option Cause → Meaning → Outcome → Type 0
 AnswersAfter (Some cause) meaning outcome = (outcome ≡ Refused (refusals.Parts cause)) ⊎ (outcome ≡ NoMemory)
 AnswersAfter None (faults at cause) outcome = (outcome ≡ Refused (refusals.Step at cause)) ⊎ (outcome ≡ NoMemory)

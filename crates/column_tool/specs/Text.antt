@@ -1,4 +1,4 @@
--- The printed text of a column, and of a refusal: this library's own.
+-- The printed text of a column, of a refusal, and of the fault of a document: this library's own.
 use Rattle.std.specs.Prelude.{ℕ, ℤ, Bool, true, false, List, [], ◌∷◌, ◌++◌, length, codes, decimal}
 use Rattle.std.specs.Fmt.{signed_decimal}
 use Rattle.std.specs.List.{flat_map}
@@ -7,12 +7,16 @@ use Rattle.column_base.specs.Kinds.{Slot, ColumnKind}
 use Rattle.column_base.specs.Errors.{name_of}
 use Rattle.column_relayout.specs.declared.columns.ColumnError.{ColumnError}
 use Rattle.column_relayout.specs.declared.columns.ColumnError.TheVariants.{NoMemory, Parts, Step}
+use Rattle.column_document.specs.declared.field.DocFault.{DocFault}
+use Rattle.column_document.specs.declared.field.DocFault.TheVariants.{Json, BadField, Unbuilt}
+use Rattle.column_document.specs.Fields.{field_name}
 use Rattle.column_relayout.specs.Kinds.{kind_name}
 use Rattle.column_binary.specs.Slots.{OffsetLists}
 use Rattle.column_relayout.specs.Columns.{RawLists, offset_column, column_kind, slots_of}
 
 -- ---- a column
 
+-- valid or null
 abbrev pub sign_of : Bool → List ℕ
 sign_of true = codes "+"
 sign_of false = codes "-"
@@ -25,6 +29,7 @@ slot_line slot = sign_of slot.valid ++ encode_lower slot.bytes ++ codes "\n"
 abbrev pub printed_head : ColumnKind → List Slot → List ℕ
 printed_head kind slots = codes "ok " ++ kind_name kind ++ codes " " ++ decimal (length slots) ++ codes "\n" ++ flat_map slot_line slots
 
+-- a further number
 abbrev pub after_comma : ℤ → List ℕ
 after_comma n = codes "," ++ signed_decimal n
 
@@ -52,3 +57,11 @@ unfoldable pub refusal_line : ColumnError → List ℕ
 refusal_line NoMemory = []
 refusal_line (Parts cause) = codes "refused parts " ++ name_of cause ++ codes "\n"
 refusal_line (Step at cause) = codes "refused step " ++ decimal at ++ codes " " ++ name_of cause ++ codes "\n"
+
+-- ---- a document
+
+-- bytes that are no document, with their fault
+abbrev pub fault_line : DocFault → List ℕ
+fault_line Json = codes "document json\n"
+fault_line (BadField field) = codes "document field " ++ field_name field ++ codes "\n"
+fault_line Unbuilt = codes "document unbuilt\n"

@@ -6,7 +6,7 @@ mod program;
 mod reply;
 mod text;
 
-pub use column_document::{DocError, DocFault, Field, read_document};
+pub use column_document::{DocError, DocFault, Field, parse_document, read_document};
 pub use column_port::{
     Failed, MemorySink, MemorySource, Sink, Source, StdSink, StdSource, SteadySource,
 };

@@ -1,4 +1,4 @@
-//! The printed text of a column, and of a refusal.
+//! The printed text of a column, of a refusal, and of the fault of a document.
 
 ghost use Rattle.std.specs.Prelude.{◌≡◌, ◌≢◌, ◌++◌, IfOk, OnOk, decimal, None, map, codes};
 ghost use Rattle.std.specs.List.{flat_map};
@@ -10,10 +10,11 @@ ghost use Rattle.column_relayout.specs.Kinds.{kind_of};
 ghost use Rattle.column_binary.specs.Slots.{offset_slots};
 ghost use Rattle.column_relayout.specs.Arrays.{lists_of};
 ghost use Rattle.column_base.specs.Errors.{name_of};
-ghost use Rattle.column_tool.specs.Text.{printed, printed_head, slot_line, sign_of, after_comma, numbers_text, offset_text, refusal_line};
+ghost use Rattle.column_tool.specs.Text.{printed, printed_head, slot_line, sign_of, after_comma, numbers_text, offset_text, refusal_line, fault_line};
 
 use column_base::{Cause, Offset, PolarsError};
 use column_binary::BinaryArray;
+use column_document::DocFault;
 use column_relayout::{AnyArray, ColumnError, Kind};
 use itoa::Integer;
 use std::alloc::{AllocError, Global};
@@ -155,8 +156,8 @@ pub fn text_of(alloc: Global, column: &AnyArray) -> Result<Vec<u8>, PolarsError>
     match column {
         AnyArray::Binary32(array) => Ok(array_text(alloc, Kind::Binary32, array)?),
         AnyArray::Binary64(array) => Ok(array_text(alloc, Kind::Binary64, array)?),
-        AnyArray::Utf8_32(array) => Ok(array_text(alloc, Kind::Utf8_32, &array.to_binary(alloc)?)?),
-        AnyArray::Utf8_64(array) => Ok(array_text(alloc, Kind::Utf8_64, &array.to_binary(alloc)?)?),
+        AnyArray::Utf8_32(array) => Ok(array_text(alloc, Kind::Utf8_32, array.as_binary())?),
+        AnyArray::Utf8_64(array) => Ok(array_text(alloc, Kind::Utf8_64, array.as_binary())?),
     }
 }
 
@@ -188,6 +189,23 @@ pub fn refusal_text(alloc: Global, refusal: &ColumnError) -> Result<Vec<u8>, Pol
             text.extend_from_slice(b" ")?;
             append_cause(&mut text, cause)?;
         }
+    }
+    Ok(text)
+}
+
+/// The line for bytes that are no document. `NoMemory` where there is none for it.
+pub(crate) fn fault_text(alloc: Global, fault: DocFault) -> Result<Vec<u8>, PolarsError>
+    ensures { Answers result None (λ text. text.items ≡ fault_line fault) }
+{
+    let mut text = Vec::new(alloc);
+    match fault {
+        DocFault::Json => text.extend_from_slice(b"document json\n")?,
+        DocFault::BadField(field) => {
+            text.extend_from_slice(b"document field ")?;
+            text.extend_from_slice(field.name().as_bytes())?;
+            text.extend_from_slice(b"\n")?;
+        }
+        DocFault::Unbuilt => text.extend_from_slice(b"document unbuilt\n")?,
     }
     Ok(text)
 }
