@@ -56,7 +56,8 @@ fn kept_unchecked_is(bits: Bitmap, from: usize, length: usize, wanted: &[bool]) 
     are(&bits, wanted)
 }
 
-pub fn four_give(
+/// Every way to the same part.
+pub fn four_are_cut(
     alloc: Global,
     from: usize,
     length: usize,
@@ -64,18 +65,8 @@ pub fn four_give(
 ) -> Result<bool, PolarsError> {
     Ok(
         part_is(four(alloc)?, from, length, wanted)
-            && part_unchecked_is(four(alloc)?, from, length, wanted),
-    )
-}
-
-pub fn four_keep(
-    alloc: Global,
-    from: usize,
-    length: usize,
-    wanted: &[bool],
-) -> Result<bool, PolarsError> {
-    Ok(
-        kept_is(four(alloc)?, from, length, wanted)
+            && part_unchecked_is(four(alloc)?, from, length, wanted)
+            && kept_is(four(alloc)?, from, length, wanted)
             && kept_unchecked_is(four(alloc)?, from, length, wanted),
     )
 }

@@ -12,10 +12,6 @@ fn numbers_are(buffer: &Buffer<i32>, wanted: &[i32]) -> bool {
         && buffer.as_slice() == wanted
 }
 
-fn reaches(buffer: &Buffer<i32>, from: usize, length: usize) -> bool {
-    from <= buffer.len() && length <= buffer.len() - from
-}
-
 fn part_is(buffer: Buffer<i32>, from: usize, length: usize, wanted: &[i32]) -> bool {
     from <= buffer.len()
         && length <= buffer.len() - from
@@ -40,7 +36,7 @@ fn kept_unchecked_is(buffer: Buffer<i32>, from: usize, length: usize, wanted: &[
     numbers_are(&buffer, wanted)
 }
 
-pub fn three_give(
+fn three_give(
     alloc: Global,
     from: usize,
     length: usize,
@@ -49,7 +45,7 @@ pub fn three_give(
     Ok(part_is(three(alloc)?, from, length, wanted))
 }
 
-pub fn three_keep(
+fn three_keep(
     alloc: Global,
     from: usize,
     length: usize,
@@ -58,7 +54,7 @@ pub fn three_keep(
     Ok(kept_is(three(alloc)?, from, length, wanted))
 }
 
-pub fn three_keep_unchecked(
+fn three_keep_unchecked(
     alloc: Global,
     from: usize,
     length: usize,
@@ -119,13 +115,13 @@ fn vector_is(
     length: usize,
     wanted: &[i32],
 ) -> Result<bool, PolarsError> {
-    if !reaches(&buffer, from, length) || from > buffer.len() || length > buffer.len() - from {
+    if from > buffer.len() || length > buffer.len() - from {
         return Ok(false);
     }
     Ok(buffer.sliced(from, length).make_mut(alloc)?.as_slice() == wanted)
 }
 
-pub fn three_become(
+fn three_become(
     alloc: Global,
     from: usize,
     length: usize,
@@ -135,7 +131,7 @@ pub fn three_become(
 }
 
 // One that is shared is copied.
-pub fn shared_three_become(
+fn shared_three_become(
     alloc: Global,
     from: usize,
     length: usize,
@@ -145,6 +141,22 @@ pub fn shared_three_become(
     Ok(
         vector_is(alloc, buffer.try_clone(alloc)?, from, length, wanted)?
             && numbers_are(&buffer, &[10, 20, 30]),
+    )
+}
+
+/// Every way to the same part.
+pub fn three_are_cut(
+    alloc: Global,
+    from: usize,
+    length: usize,
+    wanted: &[i32],
+) -> Result<bool, PolarsError> {
+    Ok(
+        three_give(alloc, from, length, wanted)?
+            && three_keep(alloc, from, length, wanted)?
+            && three_keep_unchecked(alloc, from, length, wanted)?
+            && three_become(alloc, from, length, wanted)?
+            && shared_three_become(alloc, from, length, wanted)?,
     )
 }
 

@@ -54,10 +54,6 @@ pub fn chain_is_counted(
     Ok(chain_counts(Bitmap::from_bools(alloc, &plain)?, &plain, front, back))
 }
 
-fn share_is_counted(alloc: Global, bits: &Bitmap, plain: &[bool]) -> Result<bool, PolarsError> {
-    Ok(counts_are(&bits.try_clone(alloc)?, plain))
-}
-
 fn split_counts(
     alloc: Global,
     bits: &Bitmap,
@@ -68,10 +64,23 @@ fn split_counts(
         return Ok(false);
     }
     let (first, rest) = bits.split_at(alloc, place)?;
-    Ok(counts_are(&first, &plain[..place]) && share_is_counted(alloc, &rest, &plain[place..])?)
+    Ok(counts_are(&first, &plain[..place]) && counts_are(&rest, &plain[place..]))
+}
+
+fn share_counts(alloc: Global, bits: &Bitmap, plain: &[bool]) -> Result<bool, PolarsError> {
+    Ok(counts_are(&bits.try_clone(alloc)?, plain))
+}
+
+fn parts_count(
+    alloc: Global,
+    bits: &Bitmap,
+    plain: &[bool],
+    place: usize,
+) -> Result<bool, PolarsError> {
+    Ok(split_counts(alloc, bits, plain, place)? && share_counts(alloc, bits, plain)?)
 }
 
 pub fn split_is_counted(alloc: Global, period: usize, place: usize) -> Result<bool, PolarsError> {
     let plain = periodic(alloc, 9, period)?;
-    split_counts(alloc, &Bitmap::from_bools(alloc, &plain)?, &plain, place)
+    parts_count(alloc, &Bitmap::from_bools(alloc, &plain)?, &plain, place)
 }

@@ -17,7 +17,6 @@ fn ends_from_front<T: Drop, I: ListedBack<Item = T>>(iter: &mut I) -> bool
     iter.next().is_none()
         && iter.next().is_none()
         && iter.next_back().is_none()
-        && iter.next_back().is_none()
         && iter.next().is_none()
 }
 
@@ -27,7 +26,6 @@ fn ends_from_back<T: Drop, I: ListedBack<Item = T>>(iter: &mut I) -> bool
 {
     iter.next_back().is_none()
         && iter.next_back().is_none()
-        && iter.next().is_none()
         && iter.next().is_none()
         && iter.next_back().is_none()
 }
@@ -58,11 +56,7 @@ fn values_end(numbers: &Buffer<i32>) -> bool {
 }
 
 fn rows_end(mut rows: ZipValidity<i32, ArrayValuesIter<'_, Buffer<i32>>, BitmapIter<'_>>) -> bool {
-    rows.next().is_some()
-        && rows.next_back().is_some()
-        && rows.next().is_some()
-        && ends_from_front(&mut rows)
-        && ends_from_back(&mut rows)
+    rows.nth(2).is_some() && ends_from_front(&mut rows) && ends_from_back(&mut rows)
 }
 
 fn rows_with_flags_end(numbers: &Buffer<i32>, flags: &Bitmap) -> bool {

@@ -1,6 +1,6 @@
 use crate::checks::bits::{
-    an_unset_bit_is_a_validity, bits_are_added, bits_are_frozen, bits_are_taken, four_are_read,
-    four_give, four_keep, operations_leave, room_is_given_back, room_takes_bits, set_bits_are,
+    an_unset_bit_is_a_validity, bits_are_added, bits_are_frozen, bits_are_taken, four_are_cut,
+    four_are_read, operations_leave, room_is_given_back, room_takes_bits, set_bits_are,
     set_bits_are_no_validity, set_bits_split, shared_bits_are_changed, slices_share_four,
     unset_bits_are,
 };
@@ -20,11 +20,7 @@ fn slices_are_sublists(rt: HostRuntime) -> Result<(), Fail> {
     ];
     for (from, length, wanted) in table {
         assert!(rt;
-            four_give(rt.alloc(), from, length, wanted)?,
-            "{from} {length}"
-        );
-        assert!(rt;
-            four_keep(rt.alloc(), from, length, wanted)?,
+            four_are_cut(rt.alloc(), from, length, wanted)?,
             "{from} {length}"
         );
     }

@@ -1,7 +1,6 @@
 use crate::checks::buffers::{
-    no_buffers_are_empty, none_is_empty, shared_three_become, slice_is_copied, slices_share_three,
-    three_become, three_give, three_keep, three_keep_unchecked, three_split,
-    two_buffers_are_counted, two_buffers_are_shared, vector_comes_or_goes_back,
+    no_buffers_are_empty, none_is_empty, slice_is_copied, slices_share_three, three_are_cut,
+    three_split, two_buffers_are_counted, two_buffers_are_shared, vector_comes_or_goes_back,
 };
 use std::test::Fail;
 
@@ -16,23 +15,7 @@ fn slices_are_sublists(rt: HostRuntime) -> Result<(), Fail> {
     ];
     for (from, length, wanted) in table {
         assert!(rt;
-            three_give(rt.alloc(), from, length, wanted)?,
-            "{from} {length}"
-        );
-        assert!(rt;
-            three_keep(rt.alloc(), from, length, wanted)?,
-            "{from} {length}"
-        );
-        assert!(rt;
-            three_keep_unchecked(rt.alloc(), from, length, wanted)?,
-            "{from} {length}"
-        );
-        assert!(rt;
-            three_become(rt.alloc(), from, length, wanted)?,
-            "{from} {length}"
-        );
-        assert!(rt;
-            shared_three_become(rt.alloc(), from, length, wanted)?,
+            three_are_cut(rt.alloc(), from, length, wanted)?,
             "{from} {length}"
         );
     }
