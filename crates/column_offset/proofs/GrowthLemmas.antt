@@ -1,11 +1,11 @@
 -- Laws of growing offsets.
-use Rattle.std.proofs.Common.{◌≡◌, ℕ, zero, suc, ◌+◌, ◌-◌, ◌<◌, ◌≤◌, ℤ, pos, negsuc, List, [], ◌∷◌, ◌++◌, length, get_or, take, drop, map, refl, sym, ◌∙◌, ap, subst, inl, inr, arith, length-append, append_assoc}
-use Rattle.std.specs.Prelude.{◌≤ℤ◌, ◌+ℤ◌, sum, replicate, slice_index_or, Bool, true, false, Option, Some, None, Result, Ok, Err, OnErr, int_lt}
+use Rattle.std.proofs.Common.{◌≡◌, ℕ, zero, suc, ◌+◌, ◌-◌, ◌<◌, ◌≤◌, ℤ, pos, List, [], ◌∷◌, ◌++◌, length, take, map, refl, sym, ◌∙◌, ap, subst, inl, inr, arith, length-append, append_assoc}
+use Rattle.std.specs.Prelude.{◌≤ℤ◌, ◌+ℤ◌, sum, replicate, true, false, Option, Some, None, Result, Ok, Err, OnErr, int_lt}
 use Rattle.std.proofs.lemmas.Int.{ints}
 use Rattle.std.proofs.lemmas.Bool.{cases_lt}
 use Rattle.std.proofs.lemmas.List.{length-map}
 use Rattle.std.proofs.lemmas.List.Sums.{sum_by-cons, sum_by-append}
-use Rattle.column_offset.specs.Offsets.{nat_of, offset_at, last_of, AreSoundOffsets, AreOffsetsWithin}
+use Rattle.column_offset.specs.Offsets.{offset_at, last_of, AreSoundOffsets, AreOffsetsWithin}
 use Rattle.std.proofs.lemmas.List.{append-nil, map-append, take-map, take_all, take-take}
 use Rattle.std.proofs.Math.Seq.{take-append_seam}
 use Rattle.std.specs.Iterator.{Yields, Drains, YieldsFirst}
@@ -13,10 +13,9 @@ use Rattle.column_base.specs.declared.errors.PolarsError.{PolarsError}
 use Rattle.column_base.specs.declared.errors.PolarsError.TheVariants.{ComputeError, OutOfBounds, NoMemory}
 use Rattle.column_base.specs.declared.errors.Cause.{Cause}
 use Rattle.column_base.specs.declared.errors.Cause.TheVariants.{Overflow}
-use Rattle.column_base.specs.Answers.{Answers, cause_if}
+use Rattle.column_base.specs.Answers.{Answers}
 use Rattle.column_base.proofs.AnswersLemmas.{cause_some, answers_err}
-use Rattle.column_offset.specs.Growth.{pushed, extended, lengths_of, limit_fault, ExtendsByLengths}
-use Rattle.column_offset.proofs.OffsetsLemmas.{from_zero, pos-nat_of}
+use Rattle.column_offset.specs.Growth.{pushed, extended, limit_fault, ExtendsByLengths}
 
 map-snoc : {X : Type 0} (f : X → ℤ) (xs : List X) (x : X) → map f (xs ++ x ∷ []) ≡ map f xs ++ f x ∷ []
 map-snoc f [] x = refl

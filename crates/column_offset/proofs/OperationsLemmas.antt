@@ -1,6 +1,6 @@
 -- Laws of operations on growing offsets.
-use Rattle.std.proofs.Common.{◌≡◌, ℕ, zero, suc, ◌+◌, ◌-◌, ◌<◌, ◌≤◌, ℤ, pos, List, [], ◌∷◌, ◌++◌, length, get_or, take, drop, refl, sym, ◌∙◌, ap, subst, arith, length-append}
-use Rattle.std.specs.Prelude.{◌+ℤ◌, sum, MatchOption, Option, Some, None, Result, Ok, Err}
+use Rattle.std.proofs.Common.{◌≡◌, ℕ, ◌+◌, ◌-◌, ◌<◌, ℤ, pos, List, [], ◌∷◌, ◌++◌, length, get_or, take, drop, sym, ◌∙◌, ap, subst, arith, length-append}
+use Rattle.std.specs.Prelude.{◌+ℤ◌, sum, MatchOption, Option, Some, None, Result}
 use Rattle.std.proofs.lemmas.Int.{ints}
 use Rattle.std.proofs.lemmas.List.{drop_more, take_all}
 use Rattle.std.proofs.Math.Seq.{take-append_seam}
@@ -9,7 +9,7 @@ use Rattle.column_base.specs.declared.errors.PolarsError.{PolarsError}
 use Rattle.column_base.specs.declared.errors.Cause.{Cause}
 use Rattle.column_base.specs.Answers.{Answers, ◌or_else◌}
 use Rattle.column_offset.specs.declared.operations.OffsetsOperation.{OffsetsOperation}
-use Rattle.column_offset.specs.declared.operations.OffsetsOperation.TheVariants.{Push, Pop}
+use Rattle.column_offset.specs.declared.operations.OffsetsOperation.TheVariants.{Push}
 use Rattle.column_offset.specs.Offsets.{last_of}
 use Rattle.column_offset.specs.Growth.{pushed, extended, limit_fault}
 use Rattle.column_offset.specs.Operations.{lengths_after, operation_fault, operations_fault}

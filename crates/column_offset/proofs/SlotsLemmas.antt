@@ -1,11 +1,10 @@
 -- Slots of offsets, one by one.
-use Rattle.std.proofs.Common.{◌≡◌, ℕ, zero, suc, ◌+◌, ◌-◌, ◌<◌, ◌≤◌, ℤ, List, [], ◌∷◌, length, take, drop, map, refl, sym, ◌∙◌, ap, arith}
+use Rattle.std.proofs.Common.{◌≡◌, ℕ, zero, suc, ◌+◌, ◌-◌, ◌<◌, ◌≤◌, ℤ, List, [], ◌∷◌, length, take, drop, map, refl, ◌∙◌, ap, arith}
 use Rattle.std.proofs.lemmas.List.{length-map, drop-map}
 use Rattle.column_base.specs.Lists.{sublist}
 use Rattle.column_base.proofs.ListsLemmas.{map-sublist}
-use Rattle.column_offset.specs.Offsets.{nat_of, offset_at, last_of, AreSoundOffsets}
+use Rattle.column_offset.specs.Offsets.{nat_of, offset_at}
 use Rattle.column_offset.specs.Growth.{lengths_of, starts_and_lengths_of}
-use Rattle.column_offset.proofs.OffsetsLemmas.{sound_part}
 
 pub lengths_of-none : (offsets : List ℤ) → length offsets < 2 → lengths_of offsets ≡ []
 lengths_of-none [] few = refl

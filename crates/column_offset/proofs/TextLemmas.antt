@@ -1,16 +1,15 @@
 -- Slots of text: end to end they are the bytes from the first offset up to the last.
-use Rattle.std.proofs.Common.{◌≡◌, ℕ, zero, suc, ◌+◌, ◌-◌, ◌<◌, ◌≤◌, ℤ, pos, negsuc, Bool, true, false, List, [], ◌∷◌, ◌++◌, length, take, drop, refl, sym, ◌∙◌, ap, subst, arith, append_assoc}
-use Rattle.std.specs.Prelude.{◌≤ℤ◌, ◌&&◌, ◌↔◌, not, nat_lt, slice_range, Option, Some, None, int_lt, if◌then◌else◌}
+use Rattle.std.proofs.Common.{◌≡◌, ℕ, zero, suc, ◌+◌, ◌-◌, ◌<◌, ◌≤◌, ℤ, pos, negsuc, Bool, true, false, List, [], ◌∷◌, ◌++◌, length, take, drop, refl, sym, ◌∙◌, ap, subst, arith}
+use Rattle.std.specs.Prelude.{◌≤ℤ◌, ◌↔◌, not, nat_lt, slice_range, Option, Some, None, int_lt}
 use Rattle.std.specs.List.{concat}
 use Rattle.std.proofs.lemmas.Int.{ints}
 use Rattle.std.proofs.lemmas.Bool.{and_parts}
 use Rattle.std.proofs.lemmas.Bool.Decides.{nat_tests}
-use Rattle.std.proofs.lemmas.List.{length-drop, drop-drop, drop-take}
+use Rattle.std.proofs.lemmas.List.{drop-drop}
 use Rattle.column_base.specs.declared.errors.Cause.{Cause}
 use Rattle.column_base.specs.declared.errors.Cause.TheVariants.{OffsetsExceedValues, InvalidUtf8, CharBoundary}
 use Rattle.column_base.specs.Answers.{◌or_else◌, cause_if}
-use Rattle.column_base.specs.Utf8.{is_well_formed_utf8, IsWellFormedUtf8}
-use Rattle.column_base.proofs.ListsLemmas.{take-take}
+use Rattle.column_base.specs.Utf8.{is_well_formed_utf8}
 use Rattle.column_base.proofs.Utf8Lemmas.{well_formed-append}
 use Rattle.column_offset.specs.Offsets.{nat_of, offset_at, last_of, AreSoundOffsets, bounds_fault}
 use Rattle.column_offset.specs.Text.{pieces, are_well_formed_utf8, texts_fault, cut_fault}

@@ -1,5 +1,5 @@
 -- Keys into a list of values: this library's own order of faults.
-use Rattle.std.specs.Prelude.{ℕ, ℤ, pos, negsuc, ◌≤◌, nat_le, if◌then◌else◌, List, [], ◌∷◌, Option, Some, None}
+use Rattle.std.specs.Prelude.{ℕ, ℤ, pos, negsuc, nat_le, List, [], ◌∷◌, Option, Some, None}
 use Rattle.column_base.specs.declared.errors.Cause.{Cause}
 use Rattle.column_base.specs.declared.errors.Cause.TheVariants.{KeyNotUsize, KeyOutOfRange}
 use Rattle.column_base.specs.Answers.{cause_if, ◌or_else◌}

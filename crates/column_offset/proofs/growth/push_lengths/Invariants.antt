@@ -1,4 +1,4 @@
-use Rattle.std.proofs.Common.{◌≡◌, ◌≤◌, map, take, length, pos}
+use Rattle.std.proofs.Common.{◌≡◌, ◌≤◌, map, pos}
 use Rattle.std.specs.Prelude.{◌+ℤ◌, sum}
 use Rattle.std.specs.Vec.{vec_capacity}
 use Rattle.column_offset.specs.Offsets.{AreOffsetsWithin, last_of}
