@@ -7,7 +7,7 @@ ghost use Rattle.column_base.specs.DataTypes.{physical_type};
 ghost use Rattle.column_base.specs.Slots.{slot_at, row_of};
 ghost use Rattle.column_storage.specs.Validity.{AreFlagsOf};
 ghost use Rattle.column_offset.specs.Offsets.{last_of, offsets_fault};
-ghost use Rattle.column_binary.specs.Types.{binary_type, is_binary, type_fault};
+ghost use Rattle.column_binary.specs.Types.{offset_type, is_offset_type, type_fault};
 ghost use Rattle.column_binary.specs.Slots.{offset_lists, offset_slots, slot_count, array_fault, AreSoundLists, IsPart};
 
 use column_base::{ArrowDataType, Cause, Offset, PhysicalType, PolarsError, Splitable};
@@ -54,7 +54,7 @@ impl<O: Offset> BinaryArray<O> {
         values: Buffer<u8>,
         validity: Option<Bitmap>,
     ) -> Result<Self, PolarsError>
-        ensures { let lists = offset_lists offsets values validity in Gives result (array_fault lists or_else type_fault O.IS_LARGE dtype) (λ a. a ≡ lists) }
+        ensures { let lists = offset_lists offsets values validity in Gives result (array_fault lists or_else type_fault O.IS_LARGE false dtype) (λ a. a ≡ lists) }
     {
         check_lists(&offsets, &values, validity.as_ref())?;
         if !is_binary(dtype, O::IS_LARGE) {
@@ -98,7 +98,7 @@ impl<O: Offset> BinaryArray<O> {
         validity: Option<Bitmap>,
     ) -> Self
         requires lists { array_fault (offset_lists offsets values validity) ≡ None }
-        requires own { type_fault O.IS_LARGE dtype ≡ None }
+        requires own { type_fault O.IS_LARGE false dtype ≡ None }
         ensures { result ≡ offset_lists offsets values validity }
     {
         match BinaryArray::try_new(dtype, offsets, values, validity) {
@@ -115,7 +115,7 @@ impl<O: Offset> BinaryArray<O> {
         validity: Option<Bitmap>,
     ) -> Self
         requires sound { AreSoundLists (offset_lists offsets values validity) }
-        requires own { type_fault O.IS_LARGE dtype ≡ None }
+        requires own { type_fault O.IS_LARGE false dtype ≡ None }
         ensures { result ≡ offset_lists offsets values validity }
     {
         let _ = dtype;
@@ -130,7 +130,7 @@ impl<O: Offset> BinaryArray<O> {
     ///
     /// `NoMemory` where there is none for its one offset.
     pub fn new_empty(alloc: Global, dtype: ArrowDataType) -> Result<Self, PolarsError>
-        requires { type_fault O.IS_LARGE dtype ≡ None }
+        requires { type_fault O.IS_LARGE false dtype ≡ None }
         ensures { Answers result None (λ a. a ≡ offset_lists (pos 0 ∷ []) [] None) }
     {
         Ok(BinaryArray {
@@ -144,7 +144,7 @@ impl<O: Offset> BinaryArray<O> {
     ///
     /// `NoMemory` where there is none for their offsets and flags.
     pub fn new_null(alloc: Global, dtype: ArrowDataType, length: usize) -> Result<Self, PolarsError>
-        requires { type_fault O.IS_LARGE dtype ≡ None }
+        requires { type_fault O.IS_LARGE false dtype ≡ None }
         ensures { Answers result None (λ a. a ≡ offset_lists (replicate (length + 1) (pos 0)) [] (Some (replicate length false))) }
     {
         if length == usize::MAX {
@@ -172,8 +172,8 @@ impl<O: Offset> BinaryArray<O> {
 
     /// The data type of byte strings with offsets of this width.
     pub fn default_dtype() -> ArrowDataType
-        ensures dtype { result ≡ binary_type O.IS_LARGE }
-        ensures own { type_fault O.IS_LARGE result ≡ None }
+        ensures dtype { result ≡ offset_type O.IS_LARGE false }
+        ensures own { type_fault O.IS_LARGE false result ≡ None }
     {
         if O::IS_LARGE {
             ArrowDataType::LargeBinary
@@ -217,8 +217,8 @@ impl<O: Offset> BinaryArray<O> {
 
     /// The data type, which is the one of byte strings with offsets of this width.
     pub fn dtype(&self) -> ArrowDataType
-        ensures dtype { result ≡ binary_type O.IS_LARGE }
-        ensures own { type_fault O.IS_LARGE result ≡ None }
+        ensures dtype { result ≡ offset_type O.IS_LARGE false }
+        ensures own { type_fault O.IS_LARGE false result ≡ None }
     {
         Self::default_dtype()
     }
@@ -302,8 +302,8 @@ impl<O: Offset> BinaryArray<O> {
 
     /// The lists: the data type, the offsets, the value bytes and the validity. Takes no memory.
     pub fn into_inner(self) -> (ArrowDataType, OffsetsBuffer<O>, Buffer<u8>, Option<Bitmap>)
-        ensures dtype { result.0 ≡ binary_type O.IS_LARGE }
-        ensures own { type_fault O.IS_LARGE result.0 ≡ None }
+        ensures dtype { result.0 ≡ offset_type O.IS_LARGE false }
+        ensures own { type_fault O.IS_LARGE false result.0 ≡ None }
         ensures offsets { result.1 ≡ self.offsets }
         ensures values { result.2 ≡ self.values }
         ensures flags { result.3 ≡ self.flags }
@@ -433,7 +433,7 @@ fn check_lists<O: Offset>(
 
 /// Whether a data type is laid out as byte strings with offsets of 32 bits, or of 64 where `is_large`.
 fn is_binary(dtype: ArrowDataType, is_large: bool) -> bool
-    ensures { result ≡ is_binary is_large (physical_type dtype) }
+    ensures { result ≡ is_offset_type is_large false (physical_type dtype) }
 {
     match dtype.to_physical_type() {
         PhysicalType::Binary => !is_large,

@@ -1,6 +1,6 @@
 //! The array: its constructors, its readers, and its cheap changes.
 
-ghost use Rattle.std.specs.Prelude.{◌≡◌, ◌+◌, ◌<◌, ◌≤◌, ◌≤ℤ◌, ◌==◌, not, pos, [], ◌∷◌, false, length as list_length, map, replicate, count_by, option_map, None, Some, IfSome, MatchOption};
+ghost use Rattle.std.specs.Prelude.{◌≡◌, ◌+◌, ◌<◌, ◌≤◌, ◌≤ℤ◌, ◌==◌, not, pos, [], ◌∷◌, true, false, length as list_length, map, replicate, count_by, option_map, None, Some, IfSome, MatchOption};
 ghost use Rattle.std.specs.Option.{option_copied};
 ghost use Rattle.column_base.specs.Answers.{Gives, GivesCause, Answers, ◌or_else◌};
 ghost use Rattle.column_base.specs.DataTypes.{physical_type};
@@ -8,7 +8,7 @@ ghost use Rattle.column_base.specs.Slots.{slot_at, row_of};
 ghost use Rattle.column_storage.specs.Validity.{AreFlagsOf};
 ghost use Rattle.column_offset.specs.Offsets.{last_of, offsets_fault};
 ghost use Rattle.column_binary.specs.Slots.{offset_lists, offset_slots, slot_count, IsPart};
-ghost use Rattle.column_utf8.specs.Types.{text_type, is_text, type_fault};
+ghost use Rattle.column_binary.specs.Types.{offset_type, is_offset_type, type_fault};
 ghost use Rattle.column_utf8.specs.Texts.{text_array_fault, AreSoundTexts};
 
 use column_base::{ArrowDataType, Cause, Offset, PhysicalType, PolarsError, Splitable, str_of};
@@ -56,7 +56,7 @@ impl<O: Offset> Utf8Array<O> {
         values: Buffer<u8>,
         validity: Option<Bitmap>,
     ) -> Result<Self, PolarsError>
-        ensures { let lists = offset_lists offsets values validity in Gives result (text_array_fault lists or_else type_fault O.IS_LARGE dtype) (λ a. a ≡ lists) }
+        ensures { let lists = offset_lists offsets values validity in Gives result (text_array_fault lists or_else type_fault O.IS_LARGE true dtype) (λ a. a ≡ lists) }
     {
         check_texts(&offsets, &values, validity.as_ref())?;
         if !is_text(dtype, O::IS_LARGE) {
@@ -93,7 +93,7 @@ impl<O: Offset> Utf8Array<O> {
         validity: Option<Bitmap>,
     ) -> Self
         requires lists { text_array_fault (offset_lists offsets values validity) ≡ None }
-        requires own { type_fault O.IS_LARGE dtype ≡ None }
+        requires own { type_fault O.IS_LARGE true dtype ≡ None }
         ensures { result ≡ offset_lists offsets values validity }
     {
         match Utf8Array::try_new(dtype, offsets, values, validity) {
@@ -110,7 +110,7 @@ impl<O: Offset> Utf8Array<O> {
         validity: Option<Bitmap>,
     ) -> Self
         requires sound { AreSoundTexts (offset_lists offsets values validity) }
-        requires own { type_fault O.IS_LARGE dtype ≡ None }
+        requires own { type_fault O.IS_LARGE true dtype ≡ None }
         ensures { result ≡ offset_lists offsets values validity }
     {
         let _ = dtype;
@@ -121,7 +121,7 @@ impl<O: Offset> Utf8Array<O> {
     ///
     /// `NoMemory` where there is none for its one offset.
     pub fn new_empty(alloc: Global, dtype: ArrowDataType) -> Result<Self, PolarsError>
-        requires { type_fault O.IS_LARGE dtype ≡ None }
+        requires { type_fault O.IS_LARGE true dtype ≡ None }
         ensures { Answers result None (λ a. a ≡ offset_lists (pos 0 ∷ []) [] None) }
     {
         let array = BinaryArray::new_empty(alloc, BinaryArray::<O>::default_dtype())?;
@@ -133,7 +133,7 @@ impl<O: Offset> Utf8Array<O> {
     ///
     /// `NoMemory` where there is none for their offsets and flags.
     pub fn new_null(alloc: Global, dtype: ArrowDataType, length: usize) -> Result<Self, PolarsError>
-        requires { type_fault O.IS_LARGE dtype ≡ None }
+        requires { type_fault O.IS_LARGE true dtype ≡ None }
         ensures { Answers result None (λ a. a ≡ offset_lists (replicate (length + 1) (pos 0)) [] (Some (replicate length false))) }
     {
         let array = BinaryArray::new_null(alloc, BinaryArray::<O>::default_dtype(), length)?;
@@ -153,8 +153,8 @@ impl<O: Offset> Utf8Array<O> {
 
     /// The data type of texts with offsets of this width.
     pub fn default_dtype() -> ArrowDataType
-        ensures dtype { result ≡ text_type O.IS_LARGE }
-        ensures own { type_fault O.IS_LARGE result ≡ None }
+        ensures dtype { result ≡ offset_type O.IS_LARGE true }
+        ensures own { type_fault O.IS_LARGE true result ≡ None }
     {
         if O::IS_LARGE {
             ArrowDataType::LargeUtf8
@@ -211,8 +211,8 @@ impl<O: Offset> Utf8Array<O> {
 
     /// The data type, which is the one of texts with offsets of this width.
     pub fn dtype(&self) -> ArrowDataType
-        ensures dtype { result ≡ text_type O.IS_LARGE }
-        ensures own { type_fault O.IS_LARGE result ≡ None }
+        ensures dtype { result ≡ offset_type O.IS_LARGE true }
+        ensures own { type_fault O.IS_LARGE true result ≡ None }
     {
         Self::default_dtype()
     }
@@ -293,8 +293,8 @@ impl<O: Offset> Utf8Array<O> {
 
     /// The lists: the data type, the offsets, the value bytes and the validity. Takes no memory.
     pub fn into_inner(self) -> (ArrowDataType, OffsetsBuffer<O>, Buffer<u8>, Option<Bitmap>)
-        ensures dtype { result.0 ≡ text_type O.IS_LARGE }
-        ensures own { type_fault O.IS_LARGE result.0 ≡ None }
+        ensures dtype { result.0 ≡ offset_type O.IS_LARGE true }
+        ensures own { type_fault O.IS_LARGE true result.0 ≡ None }
         ensures offsets { result.1 ≡ self.offsets }
         ensures values { result.2 ≡ self.values }
         ensures flags { result.3 ≡ self.flags }
@@ -452,7 +452,7 @@ fn check_texts<O: Offset>(
 
 /// Whether a data type is laid out as texts with offsets of 32 bits, or of 64 where `is_large`.
 fn is_text(dtype: ArrowDataType, is_large: bool) -> bool
-    ensures { result ≡ is_text is_large (physical_type dtype) }
+    ensures { result ≡ is_offset_type is_large true (physical_type dtype) }
 {
     match dtype.to_physical_type() {
         PhysicalType::Utf8 => !is_large,
