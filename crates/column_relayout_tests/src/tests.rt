@@ -9,7 +9,7 @@ use column_base::Cause;
 use column_relayout::Step::{Left, Right, Slice, ToBinary, ToUtf8};
 use column_relayout::{
     Step, last_step_after_light_ones, last_step_is_taken, light_plans_cut, light_plans_cut_once,
-    relays_lead,
+    no_fault_is_well_formed, relays_lead,
 };
 use std::test::Fail;
 
@@ -22,6 +22,7 @@ fn kinds_have_words(rt: HostRuntime) {
 
 #[test]
 fn laws_are_called(_rt: HostRuntime) {
+    no_fault_is_well_formed();
     relays_lead();
     light_plans_cut();
     light_plans_cut_once();
