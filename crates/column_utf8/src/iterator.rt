@@ -3,7 +3,7 @@
 ghost use Rattle.std.specs.Prelude.{◌≡◌, length};
 ghost use Rattle.std.specs.List.{filter_map};
 ghost use Rattle.column_base.specs.Slots.{values_of, row_of, rows_of};
-ghost use Rattle.column_storage.specs.Iterators.{rows_left, values_left, valid_values_left};
+ghost use Rattle.column_storage.specs.Iterators.{rows_left, values_left, valid_values_left, value_slots_left};
 ghost use Rattle.column_binary.specs.Slots.{offset_slots};
 
 use crate::array::Utf8Array;
@@ -62,7 +62,8 @@ impl<O: Offset + 'static> Utf8Array<O> {
 
     /// The text of each valid slot, first to last.
     pub fn non_null_values_iter(&self) -> NonNullValuesIter<'_, Utf8Array<O>>
-        ensures { valid_values_left result ≡ filter_map row_of (offset_slots self.now) }
+        ensures values { valid_values_left result ≡ filter_map row_of (offset_slots self.now) }
+        ensures slots { value_slots_left result ≡ length (offset_slots self.now) }
     {
         self.known();
         NonNullValuesIter::new(self, self.validity())
