@@ -1,4 +1,4 @@
-//! Parts for the tests.
+//! Lists and parts for the tests.
 
 use column_base::PolarsError;
 use column_relayout::{Kind, RawColumn};
@@ -44,17 +44,62 @@ pub fn cut_character() -> Lists<'static> {
     lists_of(&[0, 1, 2, 3], b"\xc3\xa9a", Some(&[false, false, true]))
 }
 
-fn is_text(kind: Kind) -> bool {
-    matches!(kind, Kind::Utf8_32 | Kind::Utf8_64)
+/// Eight slots, three of which are null.
+pub fn eight() -> Lists<'static> {
+    lists_of(
+        &[1, 2, 4, 4, 7, 8, 10, 14, 14],
+        b"\xffa\xc3\xa9\xe2\x82\xacbcd\xf0\x9f\x98\x80\xff",
+        Some(&[true, false, true, true, false, true, true, false]),
+    )
 }
 
-/// The kind in the same layout that is texts where this one is byte strings, and byte strings where it is texts.
-pub fn other_of(kind: Kind) -> Kind {
-    match kind {
-        Kind::Binary32 => Kind::Utf8_32,
-        Kind::Binary64 => Kind::Utf8_64,
-        Kind::Utf8_32 => Kind::Binary32,
-        Kind::Utf8_64 => Kind::Binary64,
+/// The slots that are left of the first ones: from which on, how many, and whether they have flags.
+#[derive(Clone, Copy)]
+pub struct Span {
+    pub from: usize,
+    pub count: usize,
+    pub flagged: bool,
+}
+
+pub fn span_of(from: usize, count: usize, flagged: bool) -> Span {
+    Span {
+        from,
+        count,
+        flagged,
+    }
+}
+
+fn flags_of(flags: &[bool], span: Span) -> Flags<'_> {
+    if span.flagged && span.count <= flags.len() && span.from <= flags.len() - span.count {
+        Some(&flags[span.from..span.from + span.count])
+    } else {
+        None
+    }
+}
+
+fn offsets_of(offsets: &[i32], span: Span) -> &[i32] {
+    if span.count < offsets.len() && span.from < offsets.len() - span.count {
+        &offsets[span.from..span.from + span.count + 1]
+    } else {
+        offsets
+    }
+}
+
+/// The lists of a span of slots: their offsets, first and last included, all the value bytes, and their flags.
+pub fn part_of(own: Lists<'_>, span: Span) -> Lists<'_> {
+    let flags = match own.flags {
+        Some(flags) => flags_of(flags, span),
+        None => None,
+    };
+    lists_of(offsets_of(own.offsets, span), own.values, flags)
+}
+
+/// The kind of byte strings, or of texts, with offsets of this width.
+pub fn kind_by(large: bool, text: bool) -> Kind {
+    if large {
+        if text { Kind::Utf8_64 } else { Kind::Binary64 }
+    } else {
+        if text { Kind::Utf8_32 } else { Kind::Binary32 }
     }
 }
 
@@ -65,32 +110,28 @@ fn bitmap(alloc: Global, flags: Flags<'_>) -> Result<Option<Bitmap>, PolarsError
     }
 }
 
-fn bytes(alloc: Global, bytes: &[u8]) -> Result<Buffer<u8>, PolarsError> {
-    Buffer::from_vec(alloc, Vec::from_slice(alloc, bytes)?)
-}
-
 /// Parts with offsets of 64 bits.
 pub fn wide_parts(
     alloc: Global,
     text: bool,
-    offsets: &[i64],
+    offsets: Vec<i64>,
     values: &[u8],
     flags: Flags<'_>,
 ) -> Result<RawColumn, PolarsError> {
     Ok(RawColumn::Offset64 {
         text,
-        offsets: Buffer::from_vec(alloc, Vec::from_slice(alloc, offsets)?)?,
-        values: bytes(alloc, values)?,
+        offsets: Buffer::from_vec(alloc, offsets)?,
+        values: Buffer::from_vec(alloc, Vec::from_slice(alloc, values)?)?,
         validity: bitmap(alloc, flags)?,
     })
 }
 
-fn narrow_parts(alloc: Global, text: bool, lists: Lists<'_>) -> Result<RawColumn, PolarsError> {
+fn narrow_parts(alloc: Global, text: bool, own: Lists<'_>) -> Result<RawColumn, PolarsError> {
     Ok(RawColumn::Offset32 {
         text,
-        offsets: Buffer::from_vec(alloc, Vec::from_slice(alloc, lists.offsets)?)?,
-        values: bytes(alloc, lists.values)?,
-        validity: bitmap(alloc, lists.flags)?,
+        offsets: Buffer::from_vec(alloc, Vec::from_slice(alloc, own.offsets)?)?,
+        values: Buffer::from_vec(alloc, Vec::from_slice(alloc, own.values)?)?,
+        validity: bitmap(alloc, own.flags)?,
     })
 }
 
@@ -102,13 +143,17 @@ fn widened(alloc: Global, offsets: &[i32]) -> Result<Vec<i64>, PolarsError> {
     Ok(wide)
 }
 
-/// The parts of this kind and these lists.
-pub fn parts(alloc: Global, kind: Kind, lists: Lists<'_>) -> Result<RawColumn, PolarsError> {
-    match kind {
-        Kind::Binary32 | Kind::Utf8_32 => narrow_parts(alloc, is_text(kind), lists),
-        Kind::Binary64 | Kind::Utf8_64 => {
-            let offsets = widened(alloc, lists.offsets)?;
-            wide_parts(alloc, is_text(kind), &offsets, lists.values, lists.flags)
-        }
+/// The parts of this width, byte strings or texts, and these lists.
+pub fn parts(
+    alloc: Global,
+    large: bool,
+    text: bool,
+    own: Lists<'_>,
+) -> Result<RawColumn, PolarsError> {
+    if large {
+        let offsets = widened(alloc, own.offsets)?;
+        wide_parts(alloc, text, offsets, own.values, own.flags)
+    } else {
+        narrow_parts(alloc, text, own)
     }
 }

@@ -1,16 +1,21 @@
 //! What columns, steps and plans are seen to give: one bool for each, and no assertion.
 
-use crate::cases::{Flags, Lists, lists_of, other_of, parts, wide_parts};
-use column_base::{Cause, Offset, PolarsError};
-use column_binary::BinaryArray;
+use crate::cases::{Flags, Lists, Span, kind_by, part_of, parts, span_of, three, wide_parts};
+use column_base::{Cause, PolarsError};
 use column_relayout::Step::{Left, Right, Slice, ToBinary, ToUtf8};
 use column_relayout::{
     AnyArray, ColumnError, Kind, Step, assemble, relayout, step_left, step_right, step_slice,
     step_to_binary, step_to_utf8,
 };
 use column_storage::Bitmap;
-use column_utf8::Utf8Array;
 use std::alloc::Global;
+
+pub fn words_are() -> bool {
+    Kind::Binary32.name() == "binary32"
+        && Kind::Binary64.name() == "binary64"
+        && Kind::Utf8_32.name() == "utf8_32"
+        && Kind::Utf8_64.name() == "utf8_64"
+}
 
 // ---- lists
 
@@ -29,10 +34,6 @@ fn wide_are(offsets: &[i64], wanted: &[i32]) -> bool {
         .eq(wanted.iter().map(|offset| i64::from(*offset)))
 }
 
-fn rest_is(values: &[u8], bits: Option<&Bitmap>, wanted: &Lists<'_>) -> bool {
-    values == wanted.values && flags_are(bits, wanted.flags)
-}
-
 fn kind_of(column: &AnyArray) -> Kind {
     match column {
         AnyArray::Binary32(_) => Kind::Binary32,
@@ -42,171 +43,156 @@ fn kind_of(column: &AnyArray) -> Kind {
     }
 }
 
-fn bytes_are<O: Offset>(array: &BinaryArray<O>, wanted: &Lists<'_>) -> bool {
-    rest_is(array.values().as_slice(), array.validity(), wanted)
-}
-
-fn texts_are<O: Offset>(array: &Utf8Array<O>, wanted: &Lists<'_>) -> bool {
-    rest_is(array.values().as_slice(), array.validity(), wanted)
-}
-
-/// Whether the column has these lists.
-fn lists_are(column: &AnyArray, wanted: &Lists<'_>) -> bool {
+fn offsets_are(column: &AnyArray, wanted: &[i32]) -> bool {
     match column {
-        AnyArray::Binary32(array) => {
-            array.offsets().as_slice() == wanted.offsets && bytes_are(array, wanted)
-        }
-        AnyArray::Binary64(array) => {
-            wide_are(array.offsets().as_slice(), wanted.offsets) && bytes_are(array, wanted)
-        }
-        AnyArray::Utf8_32(array) => {
-            array.offsets().as_slice() == wanted.offsets && texts_are(array, wanted)
-        }
-        AnyArray::Utf8_64(array) => {
-            wide_are(array.offsets().as_slice(), wanted.offsets) && texts_are(array, wanted)
-        }
+        AnyArray::Binary32(array) => array.offsets().as_slice() == wanted,
+        AnyArray::Binary64(array) => wide_are(array.offsets().as_slice(), wanted),
+        AnyArray::Utf8_32(array) => array.offsets().as_slice() == wanted,
+        AnyArray::Utf8_64(array) => wide_are(array.offsets().as_slice(), wanted),
     }
 }
 
-/// What a call that may refuse is to give: a column of this kind and these lists, or the refusal.
-type Wanted<'a, E> = Result<(Kind, Lists<'a>), E>;
-
-fn column_gives<E>(column: &AnyArray, wanted: &Wanted<'_, E>) -> bool {
-    match wanted {
-        Ok((kind, lists)) => kind_of(column) == *kind && lists_are(column, lists),
-        Err(_) => false,
+fn values_of(column: &AnyArray) -> &[u8] {
+    match column {
+        AnyArray::Binary32(array) => array.values().as_slice(),
+        AnyArray::Binary64(array) => array.values().as_slice(),
+        AnyArray::Utf8_32(array) => array.values().as_slice(),
+        AnyArray::Utf8_64(array) => array.values().as_slice(),
     }
 }
 
-fn gives(answer: &Result<AnyArray, Cause>, wanted: &Wanted<'_, Cause>) -> bool {
-    match answer {
-        Ok(column) => column_gives(column, wanted),
-        Err(cause) => wanted.err() == Some(*cause),
+fn validity_of(column: &AnyArray) -> Option<&Bitmap> {
+    match column {
+        AnyArray::Binary32(array) => array.validity(),
+        AnyArray::Binary64(array) => array.validity(),
+        AnyArray::Utf8_32(array) => array.validity(),
+        AnyArray::Utf8_64(array) => array.validity(),
     }
 }
 
-fn plan_gives(answer: &Result<AnyArray, ColumnError>, wanted: &Wanted<'_, ColumnError>) -> bool {
-    match answer {
-        Ok(column) => column_gives(column, wanted),
-        Err(refusal) => wanted.err() == Some(*refusal),
-    }
+/// Whether the column has this kind and these lists.
+fn column_is(column: &AnyArray, kind: Kind, wanted: &Lists<'_>) -> bool {
+    kind_of(column) == kind
+        && offsets_are(column, wanted.offsets)
+        && values_of(column) == wanted.values
+        && flags_are(validity_of(column), wanted.flags)
 }
 
-// ---- calls
+// ---- answers
 
-/// Whether the parts of this kind and these lists become that.
+/// A column of this width, byte strings or texts.
+#[derive(Clone, Copy)]
+struct Shape {
+    large: bool,
+    text: bool,
+}
+
+fn shape_of(large: bool, text: bool) -> Shape {
+    Shape { large, text }
+}
+
 fn assembled_is(
     alloc: Global,
-    kind: Kind,
-    lists: Lists<'_>,
-    wanted: Wanted<'_, Cause>,
+    of: Shape,
+    own: Lists<'_>,
+    fault: Option<Cause>,
 ) -> Result<bool, PolarsError> {
-    Ok(gives(&assemble(parts(alloc, kind, lists)?), &wanted))
-}
-
-/// Whether the plan makes that of the parts of this kind and these lists.
-fn planned_is(
-    alloc: Global,
-    kind: Kind,
-    lists: Lists<'_>,
-    plan: &[Step],
-    wanted: Wanted<'_, ColumnError>,
-) -> Result<bool, PolarsError> {
-    let answer = relayout(alloc, parts(alloc, kind, lists)?, plan);
-    Ok(plan_gives(&answer, &wanted))
-}
-
-/// The step, by the call that stands for it.
-fn by_its_call(column: AnyArray, step: Step) -> Result<AnyArray, Cause> {
-    match step {
-        Slice(offset, length) => step_slice(column, offset, length),
-        Left(count) => step_left(column, count),
-        Right(count) => step_right(column, count),
-        ToUtf8 => step_to_utf8(column),
-        ToBinary => step_to_binary(column),
+    match assemble(parts(alloc, of.large, of.text, own)?) {
+        Ok(column) => Ok(fault.is_none() && column_is(&column, kind_by(of.large, of.text), &own)),
+        Err(cause) => Ok(fault == Some(cause)),
     }
 }
 
-fn called_is(
+/// Whether the plan leads to these texts, or byte strings.
+fn leads(
     alloc: Global,
-    kind: Kind,
-    lists: Lists<'_>,
-    step: Step,
-    wanted: &Wanted<'_, Cause>,
+    of: Shape,
+    own: Lists<'_>,
+    plan: &[Step],
+    text: bool,
+    wanted: Lists<'_>,
 ) -> Result<bool, PolarsError> {
-    match assemble(parts(alloc, kind, lists)?) {
-        Ok(column) => {
-            column.known();
-            Ok(gives(&by_its_call(column, step), wanted))
-        }
+    match relayout(alloc, parts(alloc, of.large, of.text, own)?, plan) {
+        Ok(column) => Ok(column_is(&column, kind_by(of.large, text), &wanted)),
         Err(_) => Ok(false),
     }
 }
 
-/// Whether the step makes that of a column of this kind and these lists, by its call and as a plan.
-fn step_is(
+/// Whether the plan is refused so.
+fn refuses(
     alloc: Global,
-    kind: Kind,
-    lists: Lists<'_>,
-    step: Step,
-    wanted: Wanted<'_, Cause>,
+    of: Shape,
+    own: Lists<'_>,
+    plan: &[Step],
+    refusal: ColumnError,
 ) -> Result<bool, PolarsError> {
-    let by_call = called_is(alloc, kind, lists, step, &wanted)?;
-    let by_plan = planned_is(
-        alloc,
-        kind,
-        lists,
-        &[step],
-        wanted.map_err(|cause| ColumnError::Step(0, cause)),
-    )?;
-    Ok(by_call && by_plan)
-}
-
-// ---- words
-
-pub fn words_are() -> bool {
-    Kind::Binary32.name() == "binary32"
-        && Kind::Binary64.name() == "binary64"
-        && Kind::Utf8_32.name() == "utf8_32"
-        && Kind::Utf8_64.name() == "utf8_64"
+    let answer = relayout(alloc, parts(alloc, of.large, of.text, own)?, plan);
+    Ok(answer.err() == Some(refusal))
 }
 
 // ---- parts, in each kind
 
-fn stands(alloc: Global, kind: Kind, own: Lists<'_>) -> Result<bool, PolarsError> {
-    Ok(
-        assembled_is(alloc, kind, own, Ok((kind, own)))?
-            && planned_is(alloc, kind, own, &[], Ok((kind, own)))?,
-    )
-}
-
-/// Whether the lists become a column, by themselves and by a plan without steps.
-pub fn all_stand(alloc: Global, own: Lists<'_>) -> Result<bool, PolarsError> {
-    Ok(
-        stands(alloc, Kind::Binary32, own)?
-            && stands(alloc, Kind::Binary64, own)?
-            && stands(alloc, Kind::Utf8_32, own)?
-            && stands(alloc, Kind::Utf8_64, own)?,
-    )
-}
-
-/// Whether the parts are refused so, or become a column. A refusal of the parts comes before one of a step.
+/// Whether the lists become a column, by themselves and by a plan without steps, or are refused so. A refusal of parts
+/// comes before one of a step.
 fn is_told(
     alloc: Global,
-    kind: Kind,
+    of: Shape,
     own: Lists<'_>,
     fault: Option<Cause>,
 ) -> Result<bool, PolarsError> {
     match fault {
         Some(cause) => Ok(
-            assembled_is(alloc, kind, own, Err(cause))?
-                && planned_is(alloc, kind, own, &[Left(9)], Err(ColumnError::Parts(cause)))?,
+            assembled_is(alloc, of, own, fault)?
+                && refuses(alloc, of, own, &[Left(9)], ColumnError::Parts(cause))?,
         ),
-        None => stands(alloc, kind, own),
+        None => Ok(
+            assembled_is(alloc, of, own, fault)? && leads(alloc, of, own, &[], of.text, own)?,
+        ),
     }
 }
 
-/// Whether byte strings and texts of these lists are refused so.
+/// Whether byte strings of these lists are none of texts, and become texts, and byte strings again, or are refused so.
+fn converts(
+    alloc: Global,
+    large: bool,
+    own: Lists<'_>,
+    fault: Option<Cause>,
+) -> Result<bool, PolarsError> {
+    let bytes = shape_of(large, false);
+    let no_texts = refuses(
+        alloc,
+        bytes,
+        own,
+        &[ToBinary],
+        ColumnError::Step(0, Cause::WrongKind),
+    )?;
+    match fault {
+        Some(cause) => {
+            Ok(no_texts && refuses(alloc, bytes, own, &[ToUtf8], ColumnError::Step(0, cause))?)
+        }
+        None => Ok(
+            no_texts
+                && leads(alloc, bytes, own, &[ToUtf8], true, own)?
+                && leads(alloc, bytes, own, &[ToUtf8, ToBinary], false, own)?,
+        ),
+    }
+}
+
+/// Whether texts of these lists are no byte strings, and become them.
+fn converts_back(alloc: Global, large: bool, own: Lists<'_>) -> Result<bool, PolarsError> {
+    let texts = shape_of(large, true);
+    Ok(
+        refuses(
+            alloc,
+            texts,
+            own,
+            &[ToUtf8],
+            ColumnError::Step(0, Cause::WrongKind),
+        )? && leads(alloc, texts, own, &[ToBinary], false, own)?,
+    )
+}
+
+/// Whether byte strings and texts of these lists become columns, or are refused so.
 pub fn all_are_told(
     alloc: Global,
     own: Lists<'_>,
@@ -214,138 +200,84 @@ pub fn all_are_told(
     of_texts: Option<Cause>,
 ) -> Result<bool, PolarsError> {
     Ok(
-        is_told(alloc, Kind::Binary32, own, of_bytes)?
-            && is_told(alloc, Kind::Binary64, own, of_bytes)?
-            && is_told(alloc, Kind::Utf8_32, own, of_texts)?
-            && is_told(alloc, Kind::Utf8_64, own, of_texts)?,
+        is_told(alloc, shape_of(false, false), own, of_bytes)?
+            && is_told(alloc, shape_of(true, false), own, of_bytes)?
+            && is_told(alloc, shape_of(false, true), own, of_texts)?
+            && is_told(alloc, shape_of(true, true), own, of_texts)?,
     )
 }
 
-fn is_refused(
+/// Whether columns of these lists convert; byte strings are refused so as texts.
+pub fn all_convert(
+    alloc: Global,
+    own: Lists<'_>,
+    fault: Option<Cause>,
+) -> Result<bool, PolarsError> {
+    Ok(
+        converts(alloc, false, own, fault)?
+            && converts(alloc, true, own, fault)?
+            && (fault.is_some() || converts_back(alloc, false, own)?)
+            && (fault.is_some() || converts_back(alloc, true, own)?),
+    )
+}
+
+/// Whether byte strings and texts of these offsets of 64 bits are refused so.
+pub fn wide_is_told(
     alloc: Global,
     text: bool,
     offsets: &[i64],
     cause: Cause,
 ) -> Result<bool, PolarsError> {
-    let parts = wide_parts(alloc, text, offsets, b"ab", None)?;
+    let parts = wide_parts(alloc, text, Vec::from_slice(alloc, offsets)?, b"ab", None)?;
     Ok(assemble(parts).err() == Some(cause))
 }
 
-/// Whether byte strings and texts of these offsets of 64 bits are refused so.
-pub fn both_are_refused(alloc: Global, offsets: &[i64], cause: Cause) -> Result<bool, PolarsError> {
-    Ok(is_refused(alloc, false, offsets, cause)? && is_refused(alloc, true, offsets, cause)?)
-}
+// ---- plans, with both widths
 
-// ---- cuts, in each kind
-
-/// Whether the cut leaves these offsets and flags.
-pub fn all_cut(
-    alloc: Global,
-    own: Lists<'_>,
-    step: Step,
-    offsets: &[i32],
-    flags: Flags<'_>,
-) -> Result<bool, PolarsError> {
-    let part = lists_of(offsets, own.values, flags);
-    Ok(
-        step_is(alloc, Kind::Binary32, own, step, Ok((Kind::Binary32, part)))?
-            && step_is(alloc, Kind::Binary64, own, step, Ok((Kind::Binary64, part)))?
-            && step_is(alloc, Kind::Utf8_32, own, step, Ok((Kind::Utf8_32, part)))?
-            && step_is(alloc, Kind::Utf8_64, own, step, Ok((Kind::Utf8_64, part)))?,
-    )
-}
-
-/// Whether the cut is refused, as it reaches past the end.
-pub fn all_are_past(alloc: Global, own: Lists<'_>, step: Step) -> Result<bool, PolarsError> {
-    Ok(
-        step_is(alloc, Kind::Binary32, own, step, Err(Cause::StepRange))?
-            && step_is(alloc, Kind::Binary64, own, step, Err(Cause::StepRange))?
-            && step_is(alloc, Kind::Utf8_32, own, step, Err(Cause::StepRange))?
-            && step_is(alloc, Kind::Utf8_64, own, step, Err(Cause::StepRange))?,
-    )
-}
-
-// ---- conversions
-
-/// Byte strings are no texts, be their bytes UTF-8 or not.
-fn bytes_convert(
-    alloc: Global,
-    kind: Kind,
-    own: Lists<'_>,
-    fault: Option<Cause>,
-) -> Result<bool, PolarsError> {
-    let are_bytes = step_is(alloc, kind, own, ToBinary, Err(Cause::WrongKind))?;
-    match fault {
-        Some(cause) => Ok(are_bytes && step_is(alloc, kind, own, ToUtf8, Err(cause))?),
-        None => Ok(
-            are_bytes
-                && step_is(alloc, kind, own, ToUtf8, Ok((other_of(kind), own)))?
-                && planned_is(alloc, kind, own, &[ToUtf8, ToBinary], Ok((kind, own)))?
-                && texts_convert(alloc, other_of(kind), own)?,
-        ),
-    }
-}
-
-fn texts_convert(alloc: Global, kind: Kind, own: Lists<'_>) -> Result<bool, PolarsError> {
-    Ok(
-        step_is(alloc, kind, own, ToBinary, Ok((other_of(kind), own)))?
-            && step_is(alloc, kind, own, ToUtf8, Err(Cause::WrongKind))?,
-    )
-}
-
-/// Whether byte strings are refused so as texts, or become texts with the same lists, and byte strings again.
-pub fn both_convert(
-    alloc: Global,
-    own: Lists<'_>,
-    fault: Option<Cause>,
-) -> Result<bool, PolarsError> {
-    Ok(
-        bytes_convert(alloc, Kind::Binary32, own, fault)?
-            && bytes_convert(alloc, Kind::Binary64, own, fault)?,
-    )
-}
-
-// ---- plans
-
-/// Whether the plan of byte strings is refused at this step so.
-pub fn both_refuse(
-    alloc: Global,
-    own: Lists<'_>,
-    plan: &[Step],
-    at: usize,
-    cause: Cause,
-) -> Result<bool, PolarsError> {
-    let refusal = ColumnError::Step(at, cause);
-    Ok(
-        planned_is(alloc, Kind::Binary32, own, plan, Err(refusal))?
-            && planned_is(alloc, Kind::Binary64, own, plan, Err(refusal))?,
-    )
-}
-
-fn kind_by(large: bool, text: bool) -> Kind {
-    match (large, text) {
-        (false, false) => Kind::Binary32,
-        (false, true) => Kind::Utf8_32,
-        (true, false) => Kind::Binary64,
-        (true, true) => Kind::Utf8_64,
-    }
-}
-
-/// Whether the plan leads from byte strings, or from texts, to these offsets and flags of byte strings, or of texts.
+/// Whether the plan leads from texts, or byte strings, to a span of them as texts, or byte strings.
 pub fn both_lead(
     alloc: Global,
     own: Lists<'_>,
     plan: &[Step],
     texts: (bool, bool),
-    offsets: &[i32],
-    flags: Flags<'_>,
+    left: Span,
 ) -> Result<bool, PolarsError> {
-    let part = lists_of(offsets, own.values, flags);
-    let (old, new) = (kind_by(false, texts.0), kind_by(false, texts.1));
-    let (old_wide, new_wide) = (kind_by(true, texts.0), kind_by(true, texts.1));
+    let part = part_of(own, left);
     Ok(
-        planned_is(alloc, old, own, plan, Ok((new, part)))?
-            && planned_is(alloc, old_wide, own, plan, Ok((new_wide, part)))?,
+        leads(alloc, shape_of(false, texts.0), own, plan, texts.1, part)?
+            && leads(alloc, shape_of(true, texts.0), own, plan, texts.1, part)?,
+    )
+}
+
+/// Whether the plan is refused at this step so.
+pub fn both_refuse(
+    alloc: Global,
+    own: Lists<'_>,
+    text: bool,
+    plan: &[Step],
+    refused: (usize, Cause),
+) -> Result<bool, PolarsError> {
+    let refusal = ColumnError::Step(refused.0, refused.1);
+    Ok(
+        refuses(alloc, shape_of(false, text), own, plan, refusal)?
+            && refuses(alloc, shape_of(true, text), own, plan, refusal)?,
+    )
+}
+
+/// Whether the cut leaves the span, in each kind.
+pub fn all_cut(alloc: Global, own: Lists<'_>, step: Step, left: Span) -> Result<bool, PolarsError> {
+    Ok(
+        both_lead(alloc, own, &[step], (false, false), left)?
+            && both_lead(alloc, own, &[step], (true, true), left)?,
+    )
+}
+
+/// Whether the cut reaches past the end, in each kind.
+pub fn all_pass(alloc: Global, own: Lists<'_>, step: Step) -> Result<bool, PolarsError> {
+    let refused = (0, Cause::StepRange);
+    Ok(
+        both_refuse(alloc, own, false, &[step], refused)?
+            && both_refuse(alloc, own, true, &[step], refused)?,
     )
 }
 
@@ -356,4 +288,67 @@ pub fn first_steps(plan: &[Step], count: usize) -> &[Step] {
     } else {
         plan
     }
+}
+
+// ---- steps, by their calls
+
+fn by_its_call(column: AnyArray, step: Step) -> Result<AnyArray, Cause> {
+    match step {
+        Slice(offset, length) => step_slice(column, offset, length),
+        Left(count) => step_left(column, count),
+        Right(count) => step_right(column, count),
+        ToUtf8 => step_to_utf8(column),
+        ToBinary => step_to_binary(column),
+    }
+}
+
+fn gives(answer: Result<AnyArray, Cause>, kind: Kind, wanted: &Lists<'_>) -> bool {
+    match answer {
+        Ok(column) => column_is(&column, kind, wanted),
+        Err(_) => false,
+    }
+}
+
+fn called_is(
+    alloc: Global,
+    of: Shape,
+    step: Step,
+    text: bool,
+    left: Span,
+) -> Result<bool, PolarsError> {
+    match assemble(parts(alloc, of.large, of.text, three())?) {
+        Ok(column) => {
+            column.known();
+            let part = part_of(three(), left);
+            Ok(gives(by_its_call(column, step), kind_by(of.large, text), &part))
+        }
+        Err(_) => Ok(false),
+    }
+}
+
+fn call_refuses(alloc: Global, of: Shape, step: Step, cause: Cause) -> Result<bool, PolarsError> {
+    match assemble(parts(alloc, of.large, of.text, three())?) {
+        Ok(column) => Ok(by_its_call(column, step).err() == Some(cause)),
+        Err(_) => Ok(false),
+    }
+}
+
+/// Whether each call that stands for a step gives what it should, and refuses what it should, on three slots.
+pub fn calls_are(alloc: Global, large: bool, text: bool) -> Result<bool, PolarsError> {
+    let of = shape_of(large, text);
+    let (other, own) = if text {
+        (ToBinary, ToUtf8)
+    } else {
+        (ToUtf8, ToBinary)
+    };
+    Ok(
+        called_is(alloc, of, Slice(1, 2), text, span_of(1, 2, true))?
+            && called_is(alloc, of, Left(2), text, span_of(0, 2, true))?
+            && called_is(alloc, of, Right(2), text, span_of(2, 1, false))?
+            && called_is(alloc, of, other, !text, span_of(0, 3, true))?
+            && call_refuses(alloc, of, own, Cause::WrongKind)?
+            && call_refuses(alloc, of, Slice(3, 1), Cause::StepRange)?
+            && call_refuses(alloc, of, Left(4), Cause::StepRange)?
+            && call_refuses(alloc, of, Right(4), Cause::StepRange)?,
+    )
 }

@@ -1,9 +1,11 @@
 //! The tests: each asserts what a check of `checks` says.
 
-use crate::cases::{Flags, Lists, cut_character, framed, lists_of, three, without};
+use crate::cases::{
+    Flags, Lists, Span, cut_character, eight, framed, lists_of, span_of, three, without,
+};
 use crate::checks::{
-    all_are_past, all_are_told, all_cut, all_stand, both_are_refused, both_convert, both_lead,
-    both_refuse, first_steps, words_are,
+    all_are_told, all_convert, all_cut, all_pass, both_lead, both_refuse, calls_are, first_steps,
+    wide_is_told, words_are,
 };
 use column_base::Cause;
 use column_relayout::Step::{Left, Right, Slice, ToBinary, ToUtf8};
@@ -33,7 +35,7 @@ fn laws_are_called(_rt: HostRuntime) {
 #[test]
 fn parts_become_columns(rt: HostRuntime) -> Result<(), Fail> {
     // Bytes before the first and after the last offset need not be UTF-8, and flags that are all set are kept.
-    let table: [(&[i32], &[u8], Flags<'_>); 8] = [
+    let table: [(&[i32], &[u8], Flags<'_>); 10] = [
         (&[0], b"", None),
         (&[0], b"", Some(&[])),
         (&[1], b"\xff\xff", None),
@@ -42,10 +44,19 @@ fn parts_become_columns(rt: HostRuntime) -> Result<(), Fail> {
         (&[0, 1, 2], b"ab", Some(&[true, true])),
         (&[0, 1, 3], b"a\xc3\xa9", None),
         (&[2, 5, 9], b"\xc3\xa9\xe2\x82\xac\xf0\x9f\x98\x80", None),
+        (&[1], b"\xff\xff", Some(&[])),
+        (&[1, 1], b"\xff\xff", Some(&[false])),
     ];
     for (offsets, values, flags) in table {
         let own = lists_of(offsets, values, flags);
-        assert!(rt; all_stand(rt.alloc(), own)?, "{offsets:?} {values:?}");
+        assert!(rt;
+            all_are_told(rt.alloc(), own, None, None)?,
+            "{offsets:?} {values:?}"
+        );
+        assert!(rt;
+            all_convert(rt.alloc(), own, None)?,
+            "{offsets:?} {values:?}"
+        );
     }
     Ok(())
 }
@@ -99,50 +110,50 @@ fn the_first_fault_of_two_is_told(rt: HostRuntime) -> Result<(), Fail> {
 
 #[test]
 fn a_fault_of_texts_is_told(rt: HostRuntime) -> Result<(), Fail> {
-    // The fault of byte strings, where they have one, and that of texts. Null slots are looked at too.
-    let table: [(&[i32], &[u8], Flags<'_>, Option<Cause>, Cause); 10] = [
-        (&[0, 1], b"\xff", None, None, Cause::InvalidUtf8),
-        (&[0, 2], b"a\xc3\xa9", None, None, Cause::InvalidUtf8),
-        (&[1, 2], b"\xc3\xa9", None, None, Cause::InvalidUtf8),
-        (&[0, 1, 2], b"\xc3\xa9", None, None, Cause::CharBoundary),
+    // Null slots are looked at too.
+    let table: [(&[i32], &[u8], Flags<'_>, Cause); 10] = [
+        (&[0, 1], b"\xff", None, Cause::InvalidUtf8),
+        (&[0, 2], b"a\xc3\xa9", None, Cause::InvalidUtf8),
+        (&[1, 2], b"\xc3\xa9", None, Cause::InvalidUtf8),
+        (&[0, 1, 2], b"\xc3\xa9", None, Cause::CharBoundary),
         (
             &[0, 0, 1],
             b"\xff",
             Some(&[true, false]),
-            None,
             Cause::InvalidUtf8,
         ),
         (
             &[0, 1, 2],
             b"\xc3\xa9",
             Some(&[false, false]),
-            None,
             Cause::CharBoundary,
         ),
-        (&[0, 1, 3], b"\xc3\xa9\xff", None, None, Cause::InvalidUtf8),
-        (
-            &[0, 1],
-            b"\xff",
-            Some(&[]),
-            Some(Cause::ValidityLength),
-            Cause::InvalidUtf8,
-        ),
-        (
-            &[0, 1, 2],
-            b"\xc3\xa9",
-            Some(&[true]),
-            Some(Cause::ValidityLength),
-            Cause::CharBoundary,
-        ),
-        (&[0, 1], b"\xff", Some(&[false]), None, Cause::InvalidUtf8),
+        (&[0, 1, 3], b"\xc3\xa9\xff", None, Cause::InvalidUtf8),
+        (&[0, 1], b"\xff", Some(&[false]), Cause::InvalidUtf8),
+        (&[0, 3], b"\xed\xa0\x80", None, Cause::InvalidUtf8),
+        (&[0, 2, 4], b"a\xf0\x9f\x98\x80", None, Cause::InvalidUtf8),
     ];
-    for (offsets, values, flags, of_bytes, of_texts) in table {
+    for (offsets, values, flags, cause) in table {
         let own = lists_of(offsets, values, flags);
         assert!(rt;
-            all_are_told(rt.alloc(), own, of_bytes, Some(of_texts))?,
+            all_are_told(rt.alloc(), own, None, Some(cause))?,
+            "{offsets:?} {values:?}"
+        );
+        assert!(rt;
+            all_convert(rt.alloc(), own, Some(cause))?,
             "{offsets:?} {values:?}"
         );
     }
+    Ok(())
+}
+
+#[test]
+fn texts_are_looked_at_before_flags(rt: HostRuntime) -> Result<(), Fail> {
+    let length = Some(Cause::ValidityLength);
+    let own = lists_of(&[0, 1], b"\xff", Some(&[]));
+    assert!(rt; all_are_told(rt.alloc(), own, length, Some(Cause::InvalidUtf8))?);
+    let own = lists_of(&[0, 1, 2], b"\xc3\xa9", Some(&[true]));
+    assert!(rt; all_are_told(rt.alloc(), own, length, Some(Cause::CharBoundary))?);
     Ok(())
 }
 
@@ -156,7 +167,11 @@ fn wide_offsets_are_read_whole(rt: HostRuntime) -> Result<(), Fail> {
     ];
     for (offsets, cause) in table {
         assert!(rt;
-            both_are_refused(rt.alloc(), offsets, cause)?,
+            wide_is_told(rt.alloc(), false, offsets, cause)?,
+            "{offsets:?}"
+        );
+        assert!(rt;
+            wide_is_told(rt.alloc(), true, offsets, cause)?,
             "{offsets:?}"
         );
     }
@@ -164,29 +179,37 @@ fn wide_offsets_are_read_whole(rt: HostRuntime) -> Result<(), Fail> {
 }
 
 #[test]
+fn steps_are_called(rt: HostRuntime) -> Result<(), Fail> {
+    assert!(rt; calls_are(rt.alloc(), false, false)?);
+    assert!(rt; calls_are(rt.alloc(), true, false)?);
+    assert!(rt; calls_are(rt.alloc(), false, true)?);
+    assert!(rt; calls_are(rt.alloc(), true, true)?);
+    Ok(())
+}
+
+#[test]
 fn cuts_are_the_slots_they_name(rt: HostRuntime) -> Result<(), Fail> {
-    let own = three();
-    let table: [(Step, &[i32], Flags<'_>); 17] = [
-        (Slice(0, 3), &[1, 3, 3, 4], Some(&[true, false, true])),
-        (Slice(0, 2), &[1, 3, 3], Some(&[true, false])),
-        (Slice(1, 2), &[3, 3, 4], Some(&[false, true])),
-        (Slice(1, 1), &[3, 3], Some(&[false])),
-        (Slice(0, 1), &[1, 3], None),
-        (Slice(2, 1), &[3, 4], None),
-        (Slice(0, 0), &[1], None),
-        (Slice(1, 0), &[3], None),
-        (Slice(3, 0), &[4], None),
-        (Left(0), &[1], None),
-        (Left(1), &[1, 3], None),
-        (Left(2), &[1, 3, 3], Some(&[true, false])),
-        (Left(3), &[1, 3, 3, 4], Some(&[true, false, true])),
-        (Right(0), &[1, 3, 3, 4], Some(&[true, false, true])),
-        (Right(1), &[3, 3, 4], Some(&[false, true])),
-        (Right(2), &[3, 4], None),
-        (Right(3), &[4], None),
+    let table: [(Step, Span); 17] = [
+        (Slice(0, 3), span_of(0, 3, true)),
+        (Slice(0, 2), span_of(0, 2, true)),
+        (Slice(1, 2), span_of(1, 2, true)),
+        (Slice(1, 1), span_of(1, 1, true)),
+        (Slice(0, 1), span_of(0, 1, false)),
+        (Slice(2, 1), span_of(2, 1, false)),
+        (Slice(0, 0), span_of(0, 0, false)),
+        (Slice(1, 0), span_of(1, 0, false)),
+        (Slice(3, 0), span_of(3, 0, false)),
+        (Left(0), span_of(0, 0, false)),
+        (Left(1), span_of(0, 1, false)),
+        (Left(2), span_of(0, 2, true)),
+        (Left(3), span_of(0, 3, true)),
+        (Right(0), span_of(0, 3, true)),
+        (Right(1), span_of(1, 2, true)),
+        (Right(2), span_of(2, 1, false)),
+        (Right(3), span_of(3, 0, false)),
     ];
-    for (step, offsets, flags) in table {
-        assert!(rt; all_cut(rt.alloc(), own, step, offsets, flags)?, "{step:?}");
+    for (step, left) in table {
+        assert!(rt; all_cut(rt.alloc(), three(), step, left)?, "{step:?}");
     }
     Ok(())
 }
@@ -196,26 +219,26 @@ fn flags_that_are_all_set_are_dropped(rt: HostRuntime) -> Result<(), Fail> {
     let valid = lists_of(&[0, 1, 2], b"ab", Some(&[true, true]));
     let bare = lists_of(&[0, 1, 2], b"ab", None);
     let without = without();
-    let table: [(Lists<'_>, Step, &[i32]); 9] = [
-        (valid, Slice(0, 2), &[0, 1, 2]),
-        (valid, Left(2), &[0, 1, 2]),
-        (valid, Right(0), &[0, 1, 2]),
-        (bare, Slice(1, 1), &[1, 2]),
-        (bare, Left(1), &[0, 1]),
-        (bare, Right(1), &[1, 2]),
-        (without, Slice(0, 0), &[2]),
-        (without, Left(0), &[2]),
-        (without, Right(0), &[2]),
+    let table: [(Lists<'_>, Step, Span); 9] = [
+        (valid, Slice(0, 2), span_of(0, 2, false)),
+        (valid, Left(2), span_of(0, 2, false)),
+        (valid, Right(0), span_of(0, 2, false)),
+        (bare, Slice(1, 1), span_of(1, 1, false)),
+        (bare, Left(1), span_of(0, 1, false)),
+        (bare, Right(1), span_of(1, 1, false)),
+        (without, Slice(0, 0), span_of(0, 0, false)),
+        (without, Left(0), span_of(0, 0, false)),
+        (without, Right(0), span_of(0, 0, false)),
     ];
-    for (own, step, offsets) in table {
-        assert!(rt; all_cut(rt.alloc(), own, step, offsets, None)?, "{step:?}");
+    for (own, step, left) in table {
+        assert!(rt; all_cut(rt.alloc(), own, step, left)?, "{step:?}");
     }
     Ok(())
 }
 
 #[test]
 fn cuts_past_the_end_are_refused(rt: HostRuntime) -> Result<(), Fail> {
-    let of_three = [
+    for step in [
         Slice(0, 4),
         Slice(1, 3),
         Slice(3, 1),
@@ -230,62 +253,18 @@ fn cuts_past_the_end_are_refused(rt: HostRuntime) -> Result<(), Fail> {
         Left(FAR),
         Right(4),
         Right(FAR),
-    ];
-    let of_none = [
+    ] {
+        assert!(rt; all_pass(rt.alloc(), three(), step)?, "{step:?}");
+    }
+    for step in [
         Slice(0, 1),
         Slice(1, 0),
         Slice(FAR, 1),
         Left(1),
         Right(1),
         Right(FAR),
-    ];
-    for step in of_three {
-        assert!(rt; all_are_past(rt.alloc(), three(), step)?, "{step:?}");
-    }
-    for step in of_none {
-        assert!(rt; all_are_past(rt.alloc(), without(), step)?, "{step:?}");
-    }
-    Ok(())
-}
-
-#[test]
-fn conversions_keep_the_lists(rt: HostRuntime) -> Result<(), Fail> {
-    let invalid = Some(Cause::InvalidUtf8);
-    let boundary = Some(Cause::CharBoundary);
-    // Why the byte strings are no texts, where they are none.
-    let table: [(&[i32], &[u8], Flags<'_>, Option<Cause>); 15] = [
-        (&[0], b"", None, None),
-        (&[1], b"\xff\xff", Some(&[]), None),
-        (&[1, 1], b"\xff\xff", Some(&[false]), None),
-        (&[0, 1, 2], b"ab", Some(&[true, true]), None),
-        (
-            &[1, 3, 3, 4],
-            b"\xffabc\xff",
-            Some(&[true, false, true]),
-            None,
-        ),
-        (
-            &[2, 5, 9],
-            b"\xc3\xa9\xe2\x82\xac\xf0\x9f\x98\x80",
-            None,
-            None,
-        ),
-        (&[0, 1], b"\xff", None, invalid),
-        (&[0, 0, 1], b"\xff", Some(&[true, false]), invalid),
-        (&[0, 2], b"a\xc3\xa9", None, invalid),
-        (&[1, 2], b"\xc3\xa9", None, invalid),
-        (&[0, 1, 3], b"\xc3\xa9\xff", None, invalid),
-        (&[0, 3], b"\xed\xa0\x80", None, invalid),
-        (&[0, 1, 2], b"\xc3\xa9", None, boundary),
-        (&[0, 1, 2], b"\xc3\xa9", Some(&[false, false]), boundary),
-        (&[0, 2, 4], b"a\xf0\x9f\x98\x80", None, invalid),
-    ];
-    for (offsets, values, flags, fault) in table {
-        let own = lists_of(offsets, values, flags);
-        assert!(rt;
-            both_convert(rt.alloc(), own, fault)?,
-            "{offsets:?} {values:?}"
-        );
+    ] {
+        assert!(rt; all_pass(rt.alloc(), without(), step)?, "{step:?}");
     }
     Ok(())
 }
@@ -294,7 +273,7 @@ fn conversions_keep_the_lists(rt: HostRuntime) -> Result<(), Fail> {
 fn plans_tell_the_first_refused_step(rt: HostRuntime) -> Result<(), Fail> {
     let framed = framed();
     let cut = cut_character();
-    let refused: [(Lists<'_>, &[Step], usize, Cause); 17] = [
+    let table: [(Lists<'_>, &[Step], usize, Cause); 17] = [
         (framed, &[ToUtf8], 0, Cause::InvalidUtf8),
         (framed, &[Right(1), ToUtf8, Left(9)], 1, Cause::InvalidUtf8),
         (framed, &[Left(3), ToUtf8, ToUtf8], 1, Cause::InvalidUtf8),
@@ -338,8 +317,11 @@ fn plans_tell_the_first_refused_step(rt: HostRuntime) -> Result<(), Fail> {
         (cut, &[Right(2), Right(2)], 1, Cause::StepRange),
         (cut, &[Slice(3, 0), Right(FAR)], 1, Cause::StepRange),
     ];
-    for (own, plan, at, cause) in refused {
-        assert!(rt; both_refuse(rt.alloc(), own, plan, at, cause)?, "{plan:?}");
+    for (own, plan, at, cause) in table {
+        assert!(rt;
+            both_refuse(rt.alloc(), own, false, plan, (at, cause))?,
+            "{plan:?}"
+        );
     }
     Ok(())
 }
@@ -348,32 +330,40 @@ fn plans_tell_the_first_refused_step(rt: HostRuntime) -> Result<(), Fail> {
 fn plans_lead_to_columns(rt: HostRuntime) -> Result<(), Fail> {
     let framed = framed();
     let cut = cut_character();
-    // Whether the slots are texts then, and their offsets and flags.
-    let accepted: [(Lists<'_>, &[Step], bool, &[i32], Flags<'_>); 8] = [
-        (framed, &[Slice(1, 2), ToUtf8], true, &[1, 2, 4], None),
-        (framed, &[Right(1), Left(2), ToUtf8], true, &[1, 2, 4], None),
-        (framed, &[Left(1), Left(0), ToUtf8], true, &[0], None),
-        (cut, &[Right(2), ToUtf8], true, &[2, 3], None),
-        (cut, &[], false, &[0, 1, 2, 3], Some(&[false, false, true])),
+    // Whether the slots are texts then, and which of them are left.
+    let table: [(Lists<'_>, &[Step], bool, Span); 8] = [
+        (framed, &[Slice(1, 2), ToUtf8], true, span_of(1, 2, false)),
+        (
+            framed,
+            &[Right(1), Left(2), ToUtf8],
+            true,
+            span_of(1, 2, false),
+        ),
+        (
+            framed,
+            &[Left(1), Left(0), ToUtf8],
+            true,
+            span_of(0, 0, false),
+        ),
+        (cut, &[Right(2), ToUtf8], true, span_of(2, 1, false)),
+        (cut, &[], false, span_of(0, 3, true)),
         (
             cut,
             &[Slice(1, 2), Slice(1, 1), Left(1)],
             false,
-            &[2, 3],
-            None,
+            span_of(2, 1, false),
         ),
         (
             cut,
             &[Slice(1, 2), Slice(2, 0), Right(0)],
             false,
-            &[3],
-            None,
+            span_of(3, 0, false),
         ),
-        (cut, &[Left(2), Right(1)], false, &[1, 2], Some(&[false])),
+        (cut, &[Left(2), Right(1)], false, span_of(1, 1, true)),
     ];
-    for (own, plan, text, offsets, flags) in accepted {
+    for (own, plan, text, left) in table {
         assert!(rt;
-            both_lead(rt.alloc(), own, plan, (false, text), offsets, flags)?,
+            both_lead(rt.alloc(), own, plan, (false, text), left)?,
             "{plan:?}"
         );
     }
@@ -382,12 +372,6 @@ fn plans_lead_to_columns(rt: HostRuntime) -> Result<(), Fail> {
 
 #[test]
 fn ten_light_steps_move_no_byte(rt: HostRuntime) -> Result<(), Fail> {
-    let values: &[u8] = b"\xffa\xc3\xa9\xe2\x82\xacbcd\xf0\x9f\x98\x80\xff";
-    let own = lists_of(
-        &[1, 2, 4, 4, 7, 8, 10, 14, 14],
-        values,
-        Some(&[true, false, true, true, false, true, true, false]),
-    );
     let of_bytes: [Step; 10] = [
         Slice(0, 8),
         ToUtf8,
@@ -412,68 +396,28 @@ fn ten_light_steps_move_no_byte(rt: HostRuntime) -> Result<(), Fail> {
         Slice(1, 3),
         Right(1),
     ];
-    // How many of the steps are taken; whether the kind is another then than at first; the offsets and flags then.
-    let table: [(usize, bool, &[i32], Flags<'_>); 10] = [
-        (
-            1,
-            false,
-            &[1, 2, 4, 4, 7, 8, 10, 14, 14],
-            Some(&[true, false, true, true, false, true, true, false]),
-        ),
-        (
-            2,
-            true,
-            &[1, 2, 4, 4, 7, 8, 10, 14, 14],
-            Some(&[true, false, true, true, false, true, true, false]),
-        ),
-        (
-            3,
-            true,
-            &[2, 4, 4, 7, 8, 10, 14, 14],
-            Some(&[false, true, true, false, true, true, false]),
-        ),
-        (
-            4,
-            true,
-            &[2, 4, 4, 7, 8, 10, 14],
-            Some(&[false, true, true, false, true, true]),
-        ),
-        (
-            5,
-            false,
-            &[2, 4, 4, 7, 8, 10, 14],
-            Some(&[false, true, true, false, true, true]),
-        ),
-        (
-            6,
-            false,
-            &[4, 4, 7, 8, 10, 14],
-            Some(&[true, true, false, true, true]),
-        ),
-        (
-            7,
-            false,
-            &[4, 7, 8, 10, 14],
-            Some(&[true, false, true, true]),
-        ),
-        (
-            8,
-            true,
-            &[4, 7, 8, 10, 14],
-            Some(&[true, false, true, true]),
-        ),
-        (9, true, &[7, 8, 10, 14], Some(&[false, true, true])),
-        (10, true, &[8, 10, 14], None),
+    // How many of the steps are taken; whether the kind is another then than at first; the slots that are left.
+    let table: [(usize, bool, Span); 10] = [
+        (1, false, span_of(0, 8, true)),
+        (2, true, span_of(0, 8, true)),
+        (3, true, span_of(1, 7, true)),
+        (4, true, span_of(1, 6, true)),
+        (5, false, span_of(1, 6, true)),
+        (6, false, span_of(2, 5, true)),
+        (7, false, span_of(3, 4, true)),
+        (8, true, span_of(3, 4, true)),
+        (9, true, span_of(4, 3, true)),
+        (10, true, span_of(5, 2, false)),
     ];
-    for (count, is_other, offsets, flags) in table {
+    for (count, is_other, left) in table {
         let plan = first_steps(&of_bytes, count);
         assert!(rt;
-            both_lead(rt.alloc(), own, plan, (false, is_other), offsets, flags)?,
+            both_lead(rt.alloc(), eight(), plan, (false, is_other), left)?,
             "{plan:?}"
         );
         let plan = first_steps(&of_texts, count);
         assert!(rt;
-            both_lead(rt.alloc(), own, plan, (true, !is_other), offsets, flags)?,
+            both_lead(rt.alloc(), eight(), plan, (true, !is_other), left)?,
             "{plan:?}"
         );
     }
