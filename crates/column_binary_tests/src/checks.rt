@@ -16,7 +16,7 @@ use std::alloc::Global;
 fn flags_are(bits: Option<&Bitmap>, wanted: Flags<'_>) -> bool {
     match (bits, wanted) {
         (None, None) => true,
-        (Some(bits), Some(wanted)) => bits.iter().eq(wanted.iter().copied()),
+        (Some(bits), Some(wanted)) => gives(bits.iter(), wanted),
         _ => false,
     }
 }
@@ -176,18 +176,19 @@ pub fn rows_are(array: &BinaryArray<i32>) -> bool {
     gives(array.into_iter(), &ROWS) && ends_are(array.iter(), ROWS)
 }
 
-pub fn large_rows_are(array: &BinaryArray<i64>) -> bool {
-    gives(array.iter(), &LARGE_ROWS) && ends_are(array.into_iter(), LARGE_ROWS)
-}
-
 pub fn values_are(array: &BinaryArray<i32>) -> bool {
     gives(array.values_iter(), &VALUES) && gives(array.non_null_values_iter(), &[b"ab", b"", b"de"])
 }
 
+pub fn large_rows_are(array: &BinaryArray<i64>) -> bool {
+    ends_are(array.into_iter(), LARGE_ROWS)
+}
+
 pub fn large_values_are(array: &BinaryArray<i64>) -> bool {
-    ends_are(array.values_iter(), VALUES)
-        && gives(array.non_null_values_iter(), &VALUES)
-        && array.non_null_values_iter().size_hint() == (4, Some(4))
+    let valid = array.non_null_values_iter();
+    valid.size_hint() == (4, Some(4))
+        && gives(valid, &VALUES)
+        && ends_are(array.values_iter(), VALUES)
 }
 
 // of one slot, which each iterator gives, and None from then on
