@@ -114,7 +114,7 @@ as_read-whole (offset_column large text lists) sound =
     ap (λ (offsets : List ℤ). offset_column large text (offset_lists offsets lists.values (Some (flags_of (slot_count part) part.flags)))) own
     ∙ ap (λ (bits : List Bool). offset_column large text (offset_lists lists.offsets lists.values (Some bits))) read
 
-pub slots-as_read : (column : RawLists) → slots_of (as_read column) ≡ slots_of column
-slots-as_read (offset_column large text lists) = binary.same_slots (offset_lists lists.offsets lists.values (Some (flags_of (slot_count lists) lists.flags))) lists refl refl refl
+pub as_read_slots : (column : RawLists) → slots_of (as_read column) ≡ slots_of column
+as_read_slots (offset_column large text lists) = binary.same_slots (offset_lists lists.offsets lists.values (Some (flags_of (slot_count lists) lists.flags))) lists refl refl refl
 
 pub ruleset columns = (bytes_well_formed, texts_well_formed)

@@ -101,3 +101,5 @@ reached_end start now plan i sound reached past =
       light = light_relays start now plan relays;
       laid = relays;
     }
+
+pub ruleset plan_laws = (reached_start, reached_fault)

@@ -1,5 +1,5 @@
 -- One step, over the lists of a column.
-use Rattle.std.proofs.Common.{◌≡◌, ℕ, ◌+◌, ◌-◌, ◌<◌, ◌≤◌, Bool, true, false, nat_lt, List, length, take, drop, Some, None, refl, sym, ◌∙◌, ap, arith}
+use Rattle.std.proofs.Common.{◌≡◌, ℕ, ◌+◌, ◌-◌, ◌≤◌, Bool, true, false, nat_lt, List, length, take, drop, Some, None, refl, sym, ◌∙◌, ap, arith}
 use Rattle.std.proofs.Math.Seq.{take-length}
 use Rattle.std.proofs.lemmas.Bool.Decides.{nat_tests}
 use Rattle.std.proofs.lemmas.List.{length-drop}
@@ -31,12 +31,9 @@ pub right_fault : (kind : ColumnKind) (slots : List Slot) (n : ℕ) → step_fau
 unfolding step_fault
 right_fault kind slots n = refl
 
--- a range that ends within the slots, and one that ends past them
+-- a range that ends within the slots
 pub range_fits : (count end : ℕ) → end ≤ count → range_fault count end ≡ None
 range_fits count end within = let inside : nat_lt count end ≡ false = grind (arith, nat_tests) in rw inside refl
-
-pub range_passes : (count end : ℕ) → count < end → range_fault count end ≡ Some StepRange
-range_passes count end past = let outside : nat_lt count end ≡ true = grind (arith, nat_tests) in rw outside refl
 
 pub within_range : (count end : ℕ) → range_fault count end ≡ None → end ≤ count
 within_range count end none =
@@ -112,3 +109,5 @@ to_binary_steps large lists new same formed = record {
 }
 
 pub ruleset kind_laws = (not_bytes, not_texts)
+
+pub ruleset conversions = (to_utf8_fault, to_binary_fault, to_utf8_steps, to_binary_steps)

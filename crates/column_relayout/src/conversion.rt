@@ -45,6 +45,7 @@ pub fn step_to_binary(column: AnyArray) -> Result<AnyArray, Cause>
     }
 }
 
+#[tactic(auto, using(crate::proofs::StepsLemmas::conversions))]
 fn to_texts<O: Offset>(array: BinaryArray<O>) -> Result<Utf8Array<O>, Cause>
     ensures { GivesStep (λ texts. offset_column O.IS_LARGE true texts) (offset_column O.IS_LARGE false array) ToUtf8 result }
 {
@@ -57,6 +58,7 @@ fn to_texts<O: Offset>(array: BinaryArray<O>) -> Result<Utf8Array<O>, Cause>
     }
 }
 
+#[tactic(auto, using(crate::proofs::StepsLemmas::conversions))]
 fn to_bytes<O: Offset>(array: Utf8Array<O>) -> BinaryArray<O>
     ensures fault { step_fault (offset_kind O.IS_LARGE true) (offset_slots array) ToBinary ≡ None }
     ensures steps { StepsTo (offset_column O.IS_LARGE true array) ToBinary (offset_column O.IS_LARGE false result) }

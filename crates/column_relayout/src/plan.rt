@@ -17,7 +17,7 @@ use std::alloc::Global;
 ///
 /// `Parts` with the parts' first fault, or else `Step` with the number, counted from 0, of the first step that is
 /// refused, and its cause. A plan of light steps takes no memory, and its column shares the parts' value bytes.
-#[tactic(auto, using(crate::proofs::PlansLemmas::reached_fault))]
+#[tactic(auto, using(crate::proofs::PlansLemmas::plan_laws))]
 pub fn relayout(alloc: Global, parts: RawColumn, plan: &[Step]) -> Result<AnyArray, ColumnError>
     ensures answer { Relayouts (lists_of_parts parts) plan.now result }
     ensures light { IsLight plan.now → result ≢ Err ColumnError.NoMemory }

@@ -1,7 +1,7 @@
 -- The range is tested against the number of slots.
-use Rattle.std.proofs.Common.{◌≡◌, ◌+◌, ◌≤◌, ◌<◌, ◌∙◌, sym, true, false, nat_le, arith}
+use Rattle.std.proofs.Common.{◌≡◌, ◌+◌, ◌≤◌, ◌∙◌, sym, true, nat_le, arith}
 use Rattle.std.proofs.lemmas.Bool.Decides.{nat_tests}
-use Rattle.column_relayout.proofs.StepsLemmas.{slice_fault, range_fits, range_passes, slice_steps}
+use Rattle.column_relayout.proofs.StepsLemmas.{slice_fault, range_fits, slice_steps}
 use Rattle.column_relayout.proofs.cut.slice.Goals as goal
 
 pub returns-then-is_within : goal.returns-then-is_within
@@ -11,9 +11,3 @@ returns-then-is_within g c =
       slice_fault _ _ c.args.offset c.args.length ∙ range_fits _ (c.args.offset + c.args.length) (omega (arith, c.count.ensures.slots)),
       slice_steps (g.C.Column.raw c.args.column) (g.C.Column.raw c.part-part.result) c.args.offset c.args.length c.part-part.ensures.part c.part-part.ensures.slots c.known.ensures,
     )
-
-pub returns-else-is_within : goal.returns-else-is_within
-returns-else-is_within g c =
-    let test : nat_le (c.args.offset + c.args.length) c.count.result ≡ false = sym c.is_within.ensures ∙ c.if-is_within.false in
-    let past : c.count.result < c.args.offset + c.args.length = grind (arith, nat_tests) in
-    slice_fault _ _ c.args.offset c.args.length ∙ range_passes _ (c.args.offset + c.args.length) (omega (arith, c.count.ensures.slots))

@@ -1,15 +1,10 @@
--- The loop starts at the assembled column, goes on by one step, and ends where the plan does.
+-- The loop goes on by one step, and ends where the plan does.
 use Rattle.std.proofs.Common.{get_or}
 use Rattle.std.proofs.lemmas.List.{get_or_default}
 use Rattle.column_relayout.specs.declared.steps.Step.TheVariants.{Slice}
 use Rattle.column_relayout.specs.Arrays.{lists_of, lists_of_parts}
-use Rattle.column_relayout.proofs.PlansLemmas.{reached_start, reached_step, reached_end}
+use Rattle.column_relayout.proofs.PlansLemmas.{reached_step, reached_end}
 use Rattle.column_relayout.proofs.plan.relayout.Goals as goal
-
-pub loop-i-init : goal.loop-i-init
-loop-i-init c =
-    let assembled = (c.in-Ok.ensures {u = tt}).answer.1 in
-    reached_start (lists_of_parts c.args.parts) (lists_of c.in-Ok.column) c.args.plan.now assembled.0 assembled.1
 
 pub loop-i-preserved : goal.loop-i-preserved
 loop-i-preserved c =
