@@ -15,8 +15,6 @@ use column_relayout::{
 };
 use std::test::Fail;
 
-const FAR: usize = 18446744073709551615;
-
 #[test]
 fn kinds_have_words(rt: HostRuntime) {
     assert!(rt; words_are());
@@ -238,31 +236,32 @@ fn flags_that_are_all_set_are_dropped(rt: HostRuntime) -> Result<(), Fail> {
 
 #[test]
 fn cuts_past_the_end_are_refused(rt: HostRuntime) -> Result<(), Fail> {
+    let far = usize::MAX;
     for step in [
         Slice(0, 4),
         Slice(1, 3),
         Slice(3, 1),
         Slice(4, 0),
-        Slice(0, FAR),
-        Slice(1, FAR),
-        Slice(FAR, 0),
-        Slice(FAR, 1),
-        Slice(FAR, 3),
-        Slice(FAR, FAR),
+        Slice(0, far),
+        Slice(1, far),
+        Slice(far, 0),
+        Slice(far, 1),
+        Slice(far, 3),
+        Slice(far, far),
         Left(4),
-        Left(FAR),
+        Left(far),
         Right(4),
-        Right(FAR),
+        Right(far),
     ] {
         assert!(rt; all_pass(rt.alloc(), three(), step)?, "{step:?}");
     }
     for step in [
         Slice(0, 1),
         Slice(1, 0),
-        Slice(FAR, 1),
+        Slice(far, 1),
         Left(1),
         Right(1),
-        Right(FAR),
+        Right(far),
     ] {
         assert!(rt; all_pass(rt.alloc(), without(), step)?, "{step:?}");
     }
@@ -271,6 +270,7 @@ fn cuts_past_the_end_are_refused(rt: HostRuntime) -> Result<(), Fail> {
 
 #[test]
 fn plans_tell_the_first_refused_step(rt: HostRuntime) -> Result<(), Fail> {
+    let far = usize::MAX;
     let framed = framed();
     let cut = cut_character();
     let table: [(Lists<'_>, &[Step], usize, Cause); 17] = [
@@ -312,10 +312,10 @@ fn plans_tell_the_first_refused_step(rt: HostRuntime) -> Result<(), Fail> {
             Cause::StepRange,
         ),
         (cut, &[Slice(1, 2), Slice(3, 0)], 1, Cause::StepRange),
-        (cut, &[Slice(1, 2), Slice(FAR, 1)], 1, Cause::StepRange),
+        (cut, &[Slice(1, 2), Slice(far, 1)], 1, Cause::StepRange),
         (cut, &[Left(2), Left(3)], 1, Cause::StepRange),
         (cut, &[Right(2), Right(2)], 1, Cause::StepRange),
-        (cut, &[Slice(3, 0), Right(FAR)], 1, Cause::StepRange),
+        (cut, &[Slice(3, 0), Right(far)], 1, Cause::StepRange),
     ];
     for (own, plan, at, cause) in table {
         assert!(rt;

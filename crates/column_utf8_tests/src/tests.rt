@@ -10,27 +10,23 @@ use crate::checks::{
 use column_base::{ArrowDataType, Cause};
 use std::test::Fail;
 
-const ONE: Flags<'static> = Some(&[true]);
-
-const TWO: Flags<'static> = Some(&[true, false]);
-
-const NULLS: Flags<'static> = Some(&[false, false]);
-
-const THREE: Flags<'static> = Some(&[true, false, true]);
-
 // ---- constructors
 
 #[test]
 fn texts_are_told_by_their_slots(rt: HostRuntime) {
+    let one: Flags<'_> = Some(&[true]);
+    let two: Flags<'_> = Some(&[true, false]);
+    let nulls: Flags<'_> = Some(&[false, false]);
+    let three: Flags<'_> = Some(&[true, false, true]);
     let exceeds = Some(Cause::OffsetsExceedValues);
     let (invalid, boundary) = (Some(Cause::InvalidUtf8), Some(Cause::CharBoundary));
     let table: [(&[usize], &[u8], Option<&[bool]>, Option<Cause>); 20] = [
         (&[0, 1, 3], b"a\xC3\xA9", None, None),
-        (&[0, 1, 3], b"a\xC3\xA9", TWO, None),
+        (&[0, 1, 3], b"a\xC3\xA9", two, None),
         // bytes that no slot has
         (&[1, 2], b"\xFFa\xFF", None, None),
         (&[0, 1, 2], b"ab\xFF", None, None),
-        (&[1, 3], b"\x80\xC3\xA9\x80", ONE, None),
+        (&[1, 3], b"\x80\xC3\xA9\x80", one, None),
         (&[1, 1], b"\xC3\xFF", None, None),
         (&[1], b"\xC3\xA9", None, None),
         (&[2], b"\xFF\xFF", None, None),
@@ -41,22 +37,22 @@ fn texts_are_told_by_their_slots(rt: HostRuntime) {
         // no UTF-8 end to end
         (&[0, 1, 2], b"a\xC3\xA9", None, invalid),
         (&[0, 2], b"\xC3\x28", None, invalid),
-        (&[0, 1, 2], b"a\xFF", TWO, invalid),
-        (&[0, 1, 2], b"\xFF\xFF", NULLS, invalid),
+        (&[0, 1, 2], b"a\xFF", two, invalid),
+        (&[0, 1, 2], b"\xFF\xFF", nulls, invalid),
         (
             &[0, 4, 5, 7],
             b"a\xE2\x82\xAC\xF0\x9F\x98\x80",
-            THREE,
+            three,
             invalid,
         ),
         // cut inside a character
         (&[0, 1, 2], b"\xC3\xA9", None, boundary),
-        (&[0, 1, 2], b"\xC3\xA9", NULLS, boundary),
-        (&[1, 2, 3], b"\x80\xC3\xA9\x80", TWO, boundary),
+        (&[0, 1, 2], b"\xC3\xA9", nulls, boundary),
+        (&[1, 2, 3], b"\x80\xC3\xA9\x80", two, boundary),
         (
             &[0, 4, 5, 8],
             b"a\xE2\x82\xAC\xF0\x9F\x98\x80",
-            THREE,
+            three,
             boundary,
         ),
     ];
@@ -68,29 +64,32 @@ fn texts_are_told_by_their_slots(rt: HostRuntime) {
 
 #[test]
 fn the_first_refusal_is_told(rt: HostRuntime) {
+    let one: Flags<'_> = Some(&[true]);
+    let two: Flags<'_> = Some(&[true, false]);
+    let three: Flags<'_> = Some(&[true, false, true]);
     let (exceeds, length) = (Cause::OffsetsExceedValues, Cause::ValidityLength);
     let (invalid, boundary) = (Cause::InvalidUtf8, Cause::CharBoundary);
     let dtype = Cause::WrongDataType;
     // the lists, whether the data type is the one of texts of that width, and the cause
     let table: [(&[usize], &[u8], Option<&[bool]>, bool, Cause); 17] = [
-        (&[0, 1, 3], b"a\xC3\xA9", ONE, true, length),
-        (&[0, 1, 3], b"a\xC3\xA9", THREE, true, length),
-        (&[0], b"", ONE, true, length),
-        (&[0, 1, 3], b"a\xC3\xA9", TWO, false, dtype),
+        (&[0, 1, 3], b"a\xC3\xA9", one, true, length),
+        (&[0, 1, 3], b"a\xC3\xA9", three, true, length),
+        (&[0], b"", one, true, length),
+        (&[0, 1, 3], b"a\xC3\xA9", two, false, dtype),
         // two faults and more
         (&[0, 1, 3], b"\xFF\xFF", None, true, exceeds),
         (&[0, 1, 2, 9], b"\xC3\xA9", None, true, exceeds),
-        (&[0, 1, 3], b"ab", ONE, true, exceeds),
-        (&[0, 1, 3], b"ab", TWO, false, exceeds),
-        (&[0, 1, 2], b"\xFF", THREE, false, exceeds),
+        (&[0, 1, 3], b"ab", one, true, exceeds),
+        (&[0, 1, 3], b"ab", two, false, exceeds),
+        (&[0, 1, 2], b"\xFF", three, false, exceeds),
         (&[0, 2, 3], b"\xC3\xA9\xA9", None, true, invalid),
-        (&[0, 1, 2], b"a\xFF", ONE, true, invalid),
-        (&[0, 1, 2], b"a\xFF", TWO, false, invalid),
-        (&[0, 1, 2], b"\xFF\xFF", THREE, false, invalid),
-        (&[0, 1, 2], b"\xC3\xA9", THREE, true, boundary),
-        (&[0, 1, 2], b"\xC3\xA9", TWO, false, boundary),
-        (&[0, 1, 2], b"\xC3\xA9", ONE, false, boundary),
-        (&[0, 1, 2], b"ab", THREE, false, length),
+        (&[0, 1, 2], b"a\xFF", one, true, invalid),
+        (&[0, 1, 2], b"a\xFF", two, false, invalid),
+        (&[0, 1, 2], b"\xFF\xFF", three, false, invalid),
+        (&[0, 1, 2], b"\xC3\xA9", three, true, boundary),
+        (&[0, 1, 2], b"\xC3\xA9", two, false, boundary),
+        (&[0, 1, 2], b"\xC3\xA9", one, false, boundary),
+        (&[0, 1, 2], b"ab", three, false, length),
     ];
     for (offsets, values, flags, is_own, cause) in table {
         let lists = lists_of(offsets, values, flags);
@@ -103,6 +102,7 @@ fn the_first_refusal_is_told(rt: HostRuntime) {
 
 #[test]
 fn sequences_are_those_of_the_standard(rt: HostRuntime) {
+    let two: Flags<'_> = Some(&[true, false]);
     let table: [(&[u8], bool); 30] = [
         (b"", true),
         (b"\x00\x7F", true),
@@ -147,7 +147,7 @@ fn sequences_are_those_of_the_standard(rt: HostRuntime) {
             Some(Cause::InvalidUtf8)
         };
         assert!(rt;
-            are_told(rt.alloc(), lists_of(&offsets, values, TWO), true, cause),
+            are_told(rt.alloc(), lists_of(&offsets, values, two), true, cause),
             "{values:?}"
         );
     }
@@ -171,20 +171,21 @@ fn no_other_data_type_is_taken(rt: HostRuntime) {
 
 #[test]
 fn the_first_fault_of_raw_lists_is_told(rt: HostRuntime) -> Result<(), Fail> {
+    let one: Flags<'_> = Some(&[true]);
     let table: [(&[usize], &[u8], Flags<'_>, Option<Cause>); 8] = [
-        (&[1, 3], b"\x80\xC3\xA9\x80", ONE, None),
+        (&[1, 3], b"\x80\xC3\xA9\x80", one, None),
         (&[2], b"\xFF\xFF", None, None),
-        (&[], b"", ONE, Some(Cause::OffsetsEmpty)),
-        (&[0, 3, 2], b"\xFF", ONE, Some(Cause::OffsetsNotMonotone)),
+        (&[], b"", one, Some(Cause::OffsetsEmpty)),
+        (&[0, 3, 2], b"\xFF", one, Some(Cause::OffsetsNotMonotone)),
         (
             &[0, 1, 3],
             b"\xFF\xFF",
-            ONE,
+            one,
             Some(Cause::OffsetsExceedValues),
         ),
-        (&[0, 1, 2], b"a\xFF", ONE, Some(Cause::InvalidUtf8)),
-        (&[0, 1, 2], b"\xC3\xA9", ONE, Some(Cause::CharBoundary)),
-        (&[0, 1, 2], b"ab", ONE, Some(Cause::ValidityLength)),
+        (&[0, 1, 2], b"a\xFF", one, Some(Cause::InvalidUtf8)),
+        (&[0, 1, 2], b"\xC3\xA9", one, Some(Cause::CharBoundary)),
+        (&[0, 1, 2], b"ab", one, Some(Cause::ValidityLength)),
     ];
     for (offsets, values, flags, cause) in table {
         let lists = lists_of(offsets, values, flags);
@@ -275,8 +276,9 @@ fn the_slices_share_their_bytes(rt: HostRuntime) -> Result<(), Fail> {
 
 #[test]
 fn texts_are_cut_in_two(rt: HostRuntime) -> Result<(), Fail> {
+    let two: Flags<'_> = Some(&[true, false]);
     let array = four::<i32>(rt.alloc())?;
-    let front = lists_of(&[1, 3, 4], FOUR.values, TWO);
+    let front = lists_of(&[1, 3, 4], FOUR.values, two);
     let back = lists_of(&[4, 4, 8], FOUR.values, None);
     assert!(rt; halves_are(rt.alloc(), &array, (2, false), front, back)?);
     assert!(rt; halves_are(rt.alloc(), &array, (2, true), front, back)?);
@@ -332,8 +334,9 @@ fn texts_are_byte_strings(rt: HostRuntime) -> Result<(), Fail> {
 
 #[test]
 fn byte_strings_are_texts_or_come_back(rt: HostRuntime) -> Result<(), Fail> {
+    let two: Flags<'_> = Some(&[true, false]);
     let (invalid, boundary) = (Some(Cause::InvalidUtf8), Some(Cause::CharBoundary));
-    let null_last = lists_of(&[0, 1, 2], b"a\xFF", TWO);
+    let null_last = lists_of(&[0, 1, 2], b"a\xFF", two);
     let cut = lists_of(&[0, 1, 2, 3], b"\xC3\xA9a", Some(&[false, false, true]));
     let valid = lists_of(&[1, 2, 3], b"\x80\xC3\xA9\x80", None);
     // the lists, from, length, and of the slice the cause, the offsets and the flags
