@@ -1,6 +1,7 @@
 //! What texts are seen to be: one truth value for each group of calls, and no assertion.
 
-ghost use Rattle.std.specs.Prelude.{◌≤◌};
+ghost use Rattle.std.specs.Prelude.{◌+◌, ◌≤◌};
+ghost use Rattle.column_binary.specs.Slots.{slot_count};
 
 use crate::cases::{FOUR, Flags, Lists, bitmap, byte_strings, four, lists_of, raw_texts, texts};
 use column_base::{ArrowDataType, Cause, Offset, PolarsError, Splitable};
@@ -212,24 +213,28 @@ pub enum Call {
     SliceUnchecked,
 }
 
-fn part_is<O: Offset>(
-    array: Utf8Array<O>,
-    call: Call,
-    range: (usize, usize),
-    wanted: Lists<'_>,
-) -> bool {
+fn part<O: Offset>(array: Utf8Array<O>, call: Call, from: usize, length: usize) -> Utf8Array<O>
+    requires { from + length ≤ slot_count array }
+{
     let mut array = array;
-    let (from, length) = range;
-    if from > array.len() || length > array.len() - from {
-        return false;
-    }
     match call {
-        Call::Sliced => array = array.sliced(from, length),
-        Call::SlicedUnchecked => array = array.sliced_unchecked(from, length),
+        Call::Sliced => return array.sliced(from, length),
+        Call::SlicedUnchecked => return array.sliced_unchecked(from, length),
         Call::Slice => array.slice(from, length),
         Call::SliceUnchecked => array.slice_unchecked(from, length),
     }
-    texts_are(&array, wanted)
+    array
+}
+
+fn part_is<O: Offset>(
+    array: Utf8Array<O>,
+    call: Call,
+    (from, length): (usize, usize),
+    wanted: Lists<'_>,
+) -> bool {
+    from <= array.len()
+        && length <= array.len() - from
+        && texts_are(&part(array, call, from, length), wanted)
 }
 
 pub fn four_give<O: Offset>(
@@ -241,48 +246,64 @@ pub fn four_give<O: Offset>(
     Ok(part_is(four::<O>(alloc)?, call, range, wanted))
 }
 
-pub fn slices_follow(alloc: Global) -> Result<bool, PolarsError> {
-    let mut array = four::<i64>(alloc)?;
+fn second_part_is(array: Utf8Array<i64>) -> bool {
+    let mut array = array;
     if array.len() != 4 {
-        return Ok(false);
+        return false;
     }
     array.slice(1, 3);
-    Ok(part_is(
+    part_is(
         array,
         Call::Sliced,
         (1, 2),
         lists_of(&[4, 4, 8], FOUR.values, None),
-    ))
+    )
 }
 
-/// The slots before a place and from it on, of any list that can be cut.
-fn halves<S: Splitable + Drop>(
+pub fn slices_follow(alloc: Global) -> Result<bool, PolarsError> {
+    Ok(second_part_is(four::<i64>(alloc)?))
+}
+
+/// A half of the slots, and by which call.
+#[derive(Clone, Copy, Debug)]
+pub enum Half {
+    Front,
+    FrontUnchecked,
+    Back,
+    BackUnchecked,
+}
+
+// a half of any list that can be cut
+fn half_of<S: Splitable + Drop>(
     alloc: Global,
     list: &S,
+    half: Half,
     place: usize,
-    unchecked: bool,
-) -> Result<(S, S), PolarsError>
+) -> Result<S, PolarsError>
     requires { place ≤ S.slot_count list.now }
 {
-    if unchecked {
-        list.split_at_unchecked(alloc, place)
-    } else {
-        list.split_at(alloc, place)
-    }
+    let (front, back) = match half {
+        Half::Front | Half::Back => list.split_at(alloc, place)?,
+        Half::FrontUnchecked | Half::BackUnchecked => list.split_at_unchecked(alloc, place)?,
+    };
+    Ok(match half {
+        Half::Front | Half::FrontUnchecked => front,
+        Half::Back | Half::BackUnchecked => back,
+    })
 }
 
-pub fn halves_are<O: Offset>(
+pub fn half_is<O: Offset>(
     alloc: Global,
     array: &Utf8Array<O>,
-    (place, unchecked): (usize, bool),
-    front: Lists<'_>,
-    back: Lists<'_>,
+    half: Half,
+    place: usize,
+    wanted: Lists<'_>,
 ) -> Result<bool, PolarsError> {
     if !array.check_bound(place) {
         return Ok(false);
     }
-    let (one, other) = halves(alloc, array, place, unchecked)?;
-    Ok(texts_are(&one, front) && texts_are(&other, back))
+    let part = half_of(alloc, array, half, place)?;
+    Ok(texts_are(&part, wanted))
 }
 
 // ---- other flags
@@ -336,21 +357,30 @@ pub fn binary_is<O: Offset>(alloc: Global, array: &Utf8Array<O>) -> Result<bool,
 
 pub fn into_binary_is<O: Offset>(
     array: Utf8Array<O>,
-    range: (usize, usize),
+    (from, length): (usize, usize),
     wanted: Lists<'_>,
 ) -> bool {
-    let (from, length) = range;
-    if from > array.len() || length > array.len() - from {
-        return false;
-    }
-    byte_strings_are(&array.sliced(from, length).into_binary(), wanted)
+    from <= array.len()
+        && length <= array.len() - from
+        && byte_strings_are(&array.sliced(from, length).into_binary(), wanted)
 }
 
 fn is_converted<O: Offset>(array: BinaryArray<O>, cause: Option<Cause>, wanted: Lists<'_>) -> bool {
     match try_into_utf8(array) {
         Ok(texts) => cause.is_none() && texts_are(&texts, wanted),
-        Err((back, refused)) => Some(refused) == cause && byte_strings_are(&back, wanted),
+        Err((back, refused)) => cause == Some(refused) && byte_strings_are(&back, wanted),
     }
+}
+
+fn part_is_converted<O: Offset>(
+    array: BinaryArray<O>,
+    (from, length): (usize, usize),
+    cause: Option<Cause>,
+    wanted: Lists<'_>,
+) -> bool {
+    from <= array.len()
+        && length <= array.len() - from
+        && is_converted(array.sliced(from, length), cause, wanted)
 }
 
 /// A slice of byte strings that is to become texts: refused for a cause, or taken where there is none.
@@ -361,10 +391,5 @@ pub fn slice_is_converted<O: Offset>(
     cause: Option<Cause>,
     wanted: Lists<'_>,
 ) -> Result<bool, PolarsError> {
-    let array = byte_strings::<O>(alloc, lists)?;
-    let (from, length) = range;
-    if from > array.len() || length > array.len() - from {
-        return Ok(false);
-    }
-    Ok(is_converted(array.sliced(from, length), cause, wanted))
+    Ok(part_is_converted(byte_strings::<O>(alloc, lists)?, range, cause, wanted))
 }

@@ -2,10 +2,10 @@
 
 use crate::cases::{FOUR, Flags, Lists, four, lists_of};
 use crate::checks::{
-    Call, are_told, binary_is, dtype_is, dtype_is_refused, empty_is, ends_are_rows, four_give,
-    halves_are, into_binary_is, is_handed_back, is_made_again, is_taken_again, large_rows_are,
-    last_values_are, no_nulls_are, nulls_are, places_are, raw_are_told, rows_are, set_is, share_is,
-    slice_is_converted, slices_follow, slots_are, taken_is, values_are, with_is,
+    Call, Half, are_told, binary_is, dtype_is, dtype_is_refused, empty_is, ends_are_rows,
+    four_give, half_is, into_binary_is, is_handed_back, is_made_again, is_taken_again,
+    large_rows_are, last_values_are, no_nulls_are, nulls_are, places_are, raw_are_told, rows_are,
+    set_is, share_is, slice_is_converted, slices_follow, slots_are, taken_is, values_are, with_is,
 };
 use column_base::{ArrowDataType, Cause};
 use std::test::Fail;
@@ -276,37 +276,28 @@ fn the_slices_share_their_bytes(rt: HostRuntime) -> Result<(), Fail> {
 
 #[test]
 fn texts_are_cut_in_two(rt: HostRuntime) -> Result<(), Fail> {
-    let two: Flags<'_> = Some(&[true, false]);
     let array = four::<i32>(rt.alloc())?;
-    let front = lists_of(&[1, 3, 4], FOUR.values, two);
+    let front = lists_of(&[1, 3, 4], FOUR.values, Some(&[true, false]));
     let back = lists_of(&[4, 4, 8], FOUR.values, None);
-    assert!(rt; halves_are(rt.alloc(), &array, (2, false), front, back)?);
-    assert!(rt; halves_are(rt.alloc(), &array, (2, true), front, back)?);
-    assert!(rt; !halves_are(rt.alloc(), &array, (5, false), front, back)?);
+    assert!(rt; half_is(rt.alloc(), &array, Half::Front, 2, front)?);
+    assert!(rt; half_is(rt.alloc(), &array, Half::Back, 2, back)?);
+    assert!(rt; half_is(rt.alloc(), &array, Half::FrontUnchecked, 2, front)?);
+    assert!(rt; half_is(rt.alloc(), &array, Half::BackUnchecked, 2, back)?);
+    assert!(rt; !half_is(rt.alloc(), &array, Half::Front, 5, front)?);
     Ok(())
 }
 
 #[test]
 fn texts_are_cut_at_their_ends(rt: HostRuntime) -> Result<(), Fail> {
     let array = four::<i64>(rt.alloc())?;
-    assert!(rt;
-        halves_are(
-            rt.alloc(),
-            &array,
-            (0, false),
-            lists_of(&[1], FOUR.values, None),
-            FOUR
-        )?
+    let (first, last) = (
+        lists_of(&[1], FOUR.values, None),
+        lists_of(&[8], FOUR.values, None),
     );
-    assert!(rt;
-        halves_are(
-            rt.alloc(),
-            &array,
-            (4, true),
-            FOUR,
-            lists_of(&[8], FOUR.values, None)
-        )?
-    );
+    assert!(rt; half_is(rt.alloc(), &array, Half::Front, 0, first)?);
+    assert!(rt; half_is(rt.alloc(), &array, Half::Back, 0, FOUR)?);
+    assert!(rt; half_is(rt.alloc(), &array, Half::FrontUnchecked, 4, FOUR)?);
+    assert!(rt; half_is(rt.alloc(), &array, Half::BackUnchecked, 4, last)?);
     Ok(())
 }
 
