@@ -1,6 +1,6 @@
 -- Laws of sublists.
-use Rattle.std.proofs.Common.{◌≡◌, ℕ, zero, suc, ◌+◌, ◌-◌, ◌≤◌, List, [], ◌∷◌, length, take, drop, map, refl, sym, ◌∙◌, ap, arith}
-use Rattle.std.proofs.lemmas.List.{length-take-le, length-drop, take-map, drop-map, drop-drop, drop-take}
+use Rattle.std.proofs.Common.{◌≡◌, ℕ, ◌+◌, ◌-◌, ◌<◌, ◌≤◌, List, length, get_or, take, drop, map, sym, ◌∙◌, ap, arith}
+use Rattle.std.proofs.lemmas.List.{length-take-le, length-drop, take-map, drop-map, drop-drop, drop-take, take-take, get_or-take, get_or-drop}
 use Rattle.column_base.specs.Lists.{sublist}
 
 pub length-sublist : {X : Type 0} (xs : List X) (from n : ℕ) → from + n ≤ length xs → length (sublist xs from n) ≡ n
@@ -10,12 +10,9 @@ length-sublist xs from n within =
 pub map-sublist : {X Y : Type 0} (f : X → Y) (xs : List X) (from n : ℕ) → map f (sublist xs from n) ≡ sublist (map f xs) from n
 map-sublist f xs from n = sym (take-map f n (drop from xs)) ∙ ap (take n) (sym (drop-map f from xs))
 
--- the first n of the first m, where n is at most m
-pub take-take : {X : Type 0} (n m : ℕ) (xs : List X) → n ≤ m → take n (take m xs) ≡ take n xs
-take-take zero m xs le = refl
-take-take (suc n) zero xs le = absurd (omega arith)
-take-take (suc n) (suc m) [] le = refl
-take-take (suc n) (suc m) (x ∷ xs) le = ap (λ ys. x ∷ ys) (take-take n m xs (omega arith))
+-- an element of a part
+pub get_or-sublist : {X : Type 0} (xs : List X) (from n i : ℕ) (d : X) → i < n → get_or (sublist xs from n) i d ≡ get_or xs (from + i) d
+get_or-sublist xs from n i d within = get_or-take n (drop from xs) i d within ∙ get_or-drop from xs i d
 
 -- a part of a part
 pub sublist-sublist : {X : Type 0} (xs : List X) (from n start m : ℕ) → start + m ≤ n → sublist (sublist xs from n) start m ≡ sublist xs (from + start) m

@@ -215,5 +215,3 @@ well_formed-cut bs p whole within =
       λ e. let boundary : IsCharBoundary bs p = (omega arith, λ i. boundary_from (slice_index bs p) e) in
           ((well_formed-IsUtf8 (take p bs)).1 (IsUtf8-take bs p text boundary), (well_formed-IsUtf8 (drop p bs)).1 (IsUtf8-drop bs p text boundary)),
     )
-
-pub ruleset utf8_laws = (well_formed-IsUtf8, well_formed-append)

@@ -33,6 +33,13 @@ Answers (Err (ComputeError cause)) fault P = (fault ≡ Some cause) × (error_of
 Answers (Err (OutOfBounds cause)) fault P = (fault ≡ Some cause) × (error_of cause ≡ OutOfBounds cause)
 Answers (Err NoMemory) fault P = Unit {0}
 
+-- The same, where memory may run out only if there is no fault.
+abbrev pub AnswersFirst : {X : Type 0} → Result X PolarsError → Option Cause → (X → Type 0) → Type 0
+AnswersFirst (Ok x) fault P = (fault ≡ None) × P x
+AnswersFirst (Err (ComputeError cause)) fault P = (fault ≡ Some cause) × (error_of cause ≡ ComputeError cause)
+AnswersFirst (Err (OutOfBounds cause)) fault P = (fault ≡ Some cause) × (error_of cause ≡ OutOfBounds cause)
+AnswersFirst (Err NoMemory) fault P = fault ≡ None
+
 -- The same as `Gives`, for a call that answers the bare cause.
 abbrev pub GivesCause : {X : Type 0} → Result X Cause → Option Cause → (X → Type 0) → Type 0
 GivesCause (Ok x) fault P = (fault ≡ None) × P x

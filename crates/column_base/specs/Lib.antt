@@ -7,3 +7,4 @@ pub mod DataTypes
 pub mod Integers
 pub mod Native
 pub mod Utf8
+pub mod Pushes

@@ -7,6 +7,7 @@ mod errors;
 mod lists;
 mod native;
 mod offset;
+mod push;
 mod splitable;
 mod utf8;
 
@@ -15,5 +16,9 @@ pub use errors::{Cause, PolarsError};
 pub use lists::{slice_reads, slices_are_one, split_is_whole};
 pub use native::NativeType;
 pub use offset::Offset;
+pub use push::{
+    ExtendError, Growing, TryExtend, TryExtendFromSelf, TryPush, push_each, push_each_ok,
+    with_each, with_each_ok,
+};
 pub use splitable::Splitable;
 pub use utf8::{is_utf8, str_of, utf8_cut, utf8_is_text};

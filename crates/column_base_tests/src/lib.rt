@@ -2,6 +2,12 @@
 #![tactic(auto)]
 
 #[cfg(test)]
+mod cases;
+#[cfg(test)]
 mod checks;
+#[cfg(test)]
+mod push_tests;
+#[cfg(test)]
+mod pushes;
 #[cfg(test)]
 mod tests;
