@@ -7,3 +7,4 @@ pub mod PlacesLemmas
 pub mod RangesLemmas
 pub mod SlotsLemmas
 pub mod ValuesLemmas
+pub mod GrowingFlagsLemmas

@@ -1,7 +1,6 @@
 -- Laws of what is left of a list from a place up to another.
 use Rattle.std.proofs.Common.{◌≡◌, ℕ, zero, suc, ◌+◌, ◌-◌, ◌<◌, ◌≤◌, List, [], ◌∷◌, ◌++◌, length, take, drop, slice_range, slice_get, Some, refl, sym, ◌∙◌, ap, arith}
-use Rattle.std.proofs.lemmas.List.{length-take, length-drop, drop-take, drop-drop, drop_all}
-use Rattle.column_base.proofs.ListsLemmas.{take-take}
+use Rattle.std.proofs.lemmas.List.{length-take, length-drop, take-take, drop-take, drop-drop, drop_all}
 use Rattle.std.proofs.lemmas.Grind.{common_steps}
 
 -- the first of what is left

@@ -8,7 +8,7 @@ use Rattle.std.proofs.lemmas.List.Sums.{sum_by-cons}
 use Rattle.column_base.specs.Kinds.{Slot}
 use Rattle.column_base.specs.Lists.{sublist}
 use Rattle.column_base.specs.Slots.{slots_by, slot_at, values_of, row_of, rows_of}
-use Rattle.column_base.proofs.ListsLemmas.{length-sublist, sublist-sublist}
+use Rattle.column_base.proofs.ListsLemmas.{length-sublist, sublist-sublist, get_or-sublist}
 use Rattle.column_base.proofs.SlotsLemmas.{slots_by-sublist, length-slots_by, values_of-slots_by, bytes-slots_by, valid-slots_by}
 use Rattle.column_storage.specs.Bits.{flags_of, given_bits, optional_values, sliced_flags, valid_values}
 use Rattle.column_storage.specs.Slots.{flagged_slots}
@@ -77,20 +77,9 @@ flagged_slots-sliced flags values from n all within =
     ∙ ap (λ (bits : List Bool). slots_by bits (sublist values from n)) (flags_of-sliced flags (length values) from n all within)
     ∙ slots_by-sublist (flags_of (length values) flags) values from n
 
-slot_at-drop : (slots : List Slot) (from i : ℕ) → slot_at (drop from slots) i ≡ slot_at slots (from + i)
-slot_at-drop slots zero i = let e : 0 + i ≡ i = omega arith in rw e refl
-slot_at-drop [] (suc from) i = refl
-slot_at-drop (slot ∷ slots) (suc from) i = let e : suc from + i ≡ suc (from + i) = omega arith in rw e (slot_at-drop slots from i)
-
-slot_at-take : (slots : List Slot) (n i : ℕ) → i < n → slot_at (take n slots) i ≡ slot_at slots i
-slot_at-take slots zero i within = absurd (omega arith)
-slot_at-take [] (suc n) i within = refl
-slot_at-take (slot ∷ slots) (suc n) zero within = refl
-slot_at-take (slot ∷ slots) (suc n) (suc i) within = slot_at-take slots n i (omega arith)
-
 -- a slot of some in a row
 pub slot_at-sublist : (slots : List Slot) (from n i : ℕ) → i < n → slot_at (sublist slots from n) i ≡ slot_at slots (from + i)
-slot_at-sublist slots from n i within = slot_at-take (drop from slots) n i within ∙ slot_at-drop slots from i
+slot_at-sublist slots from n i within = get_or-sublist slots from n i _ within
 
 pub slot_at-sliced : (flags : Option (List Bool)) (values : List (List ℕ)) (from n i : ℕ) → AreFlagsOf (length values) flags → from + n ≤ length values → i < n → slot_at (flagged_slots (sliced_flags flags from n) (sublist values from n)) i ≡ slot_at (flagged_slots flags values) (from + i)
 slot_at-sliced flags values from n i all within inside =

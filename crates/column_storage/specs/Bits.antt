@@ -1,7 +1,8 @@
 -- Lists of truth values, and what they say of the values beside them.
-use Rattle.std.specs.Prelude.{ℕ, ◌+◌, Bool, true, not, List, [], ◌∷◌, ◌++◌, replicate, slice_get, count_by, Option, Some, None, ◌==◌, if◌then◌else◌}
-use Rattle.std.specs.Option.{option_to_list}
+use Rattle.std.specs.Prelude.{ℕ, ◌+◌, min, Bool, true, not, List, [], ◌∷◌, ◌++◌, replicate, slice_get, count_by, Option, Some, None, option_map, ◌==◌, if◌then◌else◌}
+use Rattle.std.specs.Option.{option_and_then, option_to_list}
 use Rattle.column_base.specs.Lists.{sublist}
+use Rattle.column_base.specs.Pushes.{Growth}
 
 -- This library's own: a growing list of truth values, and how many more it takes without further memory.
 pub record GrowingBits : Type 0 where
@@ -21,6 +22,33 @@ kept_flags flags = if count_by not flags == 0 then None else Some flags
 abbrev pub sliced_flags : Option (List Bool) → ℕ → ℕ → Option (List Bool)
 sliced_flags None from n = None
 sliced_flags (Some flags) from n = kept_flags (sublist flags from n)
+
+-- the flags of an array: none where no slot is null
+abbrev pub frozen_flags : Option (List Bool) → Option (List Bool)
+frozen_flags flags = option_and_then kept_flags flags
+
+-- how truth values take one more: none is refused
+abbrev pub bit_growth : Growth (List Bool) Bool
+bit_growth = record { fault = λ bits bit. None; pushed = λ bits bit. bits ++ bit ∷ [] }
+
+-- the flags of a growing validity, where one is given
+abbrev pub bits_given : Option GrowingBits → Option (List Bool)
+bits_given validity = option_map (λ bits. bits.bits) validity
+
+-- how many more slots are taken without further memory, where a spare of other lists bounds them too
+abbrev pub spare_beside : Option GrowingBits → ℕ → ℕ
+spare_beside None spare = spare
+spare_beside (Some bits) spare = min bits.spare spare
+
+-- The flags of n slots and of one more. Flags are given from the first null on.
+abbrev pub pushed_flag : ℕ → Option (List Bool) → Bool → Option (List Bool)
+pushed_flag n None true = None
+pushed_flag n flags bit = Some (flags_of n flags ++ bit ∷ [])
+
+-- the flags of n slots, and after them those of m
+abbrev pub joined_flags : ℕ → Option (List Bool) → ℕ → Option (List Bool) → Option (List Bool)
+joined_flags n None m None = None
+joined_flags n flags m others = Some (flags_of n flags ++ flags_of m others)
 
 -- the places of set bits, where the first bit has the given place
 abbrev pub set_places : ℕ → List Bool → List ℕ

@@ -1,11 +1,11 @@
 //! Laws of slots that are flags beside values, for arrays of every layout. Each is the contract of a call with an empty
 //! body. A layout says of its lists only which values they are, and that the values of a part are a part of the values.
 
-ghost use Rattle.std.specs.Prelude.{◌≡◌, ◌↔◌, ℕ, ◌+◌, ◌<◌, ◌≤◌, ◌++◌, Bool, not, List, [], length, count_by, slice_index_or, Option, None};
+ghost use Rattle.std.specs.Prelude.{◌≡◌, ◌↔◌, ℕ, ◌+◌, ◌<◌, ◌≤◌, ◌++◌, ◌∷◌, Bool, not, List, [], length, take, count_by, slice_index_or, Option, None, option_map};
 ghost use Rattle.std.specs.List.{filter_map};
 ghost use Rattle.column_base.specs.Lists.{sublist};
 ghost use Rattle.column_base.specs.Slots.{slot_at, values_of, row_of, rows_of};
-ghost use Rattle.column_storage.specs.Bits.{flags_of, given_bits, optional_values, sliced_flags, valid_values};
+ghost use Rattle.column_storage.specs.Bits.{flags_of, frozen_flags, given_bits, joined_flags, optional_values, pushed_flag, sliced_flags, valid_values};
 ghost use Rattle.column_storage.specs.Slots.{flagged_slots};
 ghost use Rattle.column_storage.specs.Validity.{AreFlagsOf, flags_fault, is_valid_at};
 
@@ -86,4 +86,41 @@ pub fn rows_of_slots()
 pub fn nulls_of_slots()
     ensures { (flags : Option (List Bool)) (values : List (List ℕ)) → AreFlagsOf (length values) flags
         → count_by (λ slot. not slot.valid) (flagged_slots flags values) ≡ count_by not (given_bits flags) }
+{}
+
+/// One slot more: with its flag the flags are as many, and the slots are those before and the new one.
+#[tactic(auto, using(crate::proofs::GrowingFlagsLemmas::added_slots))]
+pub fn slot_is_added()
+    ensures count { (n : ℕ) (flags : Option (List Bool)) (bit : Bool) → AreFlagsOf n flags
+        → AreFlagsOf (n + 1) (pushed_flag n flags bit) }
+    ensures slots { (flags : Option (List Bool)) (values : List (List ℕ)) (bit : Bool) (bytes : List ℕ) → AreFlagsOf (length values) flags
+        → flagged_slots (pushed_flag (length values) flags bit) (values ++ bytes ∷ [])
+        ≡ flagged_slots flags values ++ record { valid = bit; bytes = bytes } ∷ [] }
+{}
+
+/// The slots of others: with their flags the flags are as many, and the slots are those before and those of the others.
+#[tactic(auto, using(crate::proofs::GrowingFlagsLemmas::joined_slots))]
+pub fn slots_are_joined()
+    ensures count { (n : ℕ) (flags : Option (List Bool)) (m : ℕ) (others : Option (List Bool)) → AreFlagsOf n flags → AreFlagsOf m others
+        → AreFlagsOf (n + m) (joined_flags n flags m others) }
+    ensures slots { (flags : Option (List Bool)) (values : List (List ℕ)) (others : Option (List Bool)) (rest : List (List ℕ)) → AreFlagsOf (length values) flags
+        → flagged_slots (joined_flags (length values) flags (length rest) others) (values ++ rest)
+        ≡ flagged_slots flags values ++ flagged_slots others rest }
+{}
+
+/// The first slots: cut back, the flags are as many, and the slots are the first.
+#[tactic(auto, using(crate::proofs::GrowingFlagsLemmas::first_slots))]
+pub fn slots_are_cut_back()
+    ensures count { (flags : Option (List Bool)) (n all : ℕ) → n ≤ all → AreFlagsOf all flags
+        → AreFlagsOf n (option_map (take n) flags) }
+    ensures slots { (flags : Option (List Bool)) (values : List (List ℕ)) (n : ℕ) → n ≤ length values
+        → flagged_slots (option_map (take n) flags) (take n values) ≡ take n (flagged_slots flags values) }
+{}
+
+/// Flags that are given only where a slot is null are as many, and the slots are the same.
+#[tactic(auto, using(crate::proofs::GrowingFlagsLemmas::frozen_slots))]
+pub fn frozen_slots_are_same()
+    ensures count { (flags : Option (List Bool)) (n : ℕ) → AreFlagsOf n flags → AreFlagsOf n (frozen_flags flags) }
+    ensures slots { (flags : Option (List Bool)) (values : List (List ℕ)) → AreFlagsOf (length values) flags
+        → flagged_slots (frozen_flags flags) values ≡ flagged_slots flags values }
 {}

@@ -1,13 +1,13 @@
 //! Truth values that grow.
 
-ghost use Rattle.std.specs.Prelude.{◌≡◌, ◌+◌, ◌<◌, ◌≤◌, ◌==◌, ◌++◌, ◌∷◌, [], not, true, length, replicate, None, Some, IsOk, OnErr, OnOk, MatchOption, count_by, slice_get, slice_set};
+ghost use Rattle.std.specs.Prelude.{◌≡◌, ◌+◌, ◌<◌, ◌≤◌, ◌==◌, ◌++◌, ◌∷◌, [], not, true, length, take, replicate, None, Some, IsOk, OnErr, OnOk, MatchOption, count_by, slice_get, slice_set};
 ghost use Rattle.column_base.specs.Answers.{Answers};
 ghost use Rattle.column_storage.specs.Bits.{kept_flags};
 ghost use Rattle.column_storage.specs.Iterators.{bits_left};
 
 use crate::bitmap::{Bitmap, count_unset};
 use crate::bitmap_iter::BitmapIter;
-use column_base::PolarsError;
+use column_base::{Growing, PolarsError, TryExtendFromSelf, TryPush};
 use std::alloc::Global;
 use std::marker::Model;
 
@@ -116,6 +116,28 @@ impl MutableBitmap {
         Ok(())
     }
 
+    /// Adds the bits of another list at the end.
+    ///
+    /// `NoMemory` where there is none for them, and never where there is room.
+    pub fn try_extend_from_self(&mut self, other: &Self) -> Result<(), PolarsError>
+        ensures answer { Answers result None (λ _. self.new.bits ≡ self.old.bits ++ other.now.bits) }
+        ensures spare_serves { length other.now.bits ≤ self.old.spare → IsOk result }
+        ensures spare_left { OnOk result (self.old.spare ≤ self.new.spare + length other.now.bits) }
+        ensures unchanged { OnErr result (self.new ≡ self.old) }
+    {
+        self.reserve(other.len())?;
+        self.values.extend_from_slice(&other.values)?;
+        Ok(())
+    }
+
+    /// Keeps the first `len` bits, or all where there are no more.
+    pub fn truncate(&mut self, len: usize)
+        ensures bits { self.new.bits ≡ take len self.old.bits }
+        ensures spare { self.old.spare ≤ self.new.spare }
+    {
+        self.values.truncate(len);
+    }
+
     /// Gives the bit at place `i` another value.
     pub fn set(&mut self, i: usize, value: bool)
         requires { i < length self.old.bits }
@@ -137,6 +159,13 @@ impl MutableBitmap {
         ensures { result ≡ length self.now.bits }
     {
         self.values.len()
+    }
+
+    /// The number of bits for which there is room, those that are there among them.
+    pub fn capacity(&self) -> usize
+        ensures { result ≡ length self.now.bits + self.now.spare }
+    {
+        self.values.capacity()
     }
 
     /// Whether there is no bit.
@@ -211,5 +240,40 @@ impl MutableBitmap {
     {
         let values = Vec::from_slice(*self.values.allocator(), &self.values)?;
         Ok(MutableBitmap { values })
+    }
+}
+
+impl Growing for MutableBitmap {
+    ghost use Rattle.column_storage.specs.Bits.{bit_growth};
+
+    // seen as the list of bits
+    type Lists = Bitmap;
+
+    type Row = bool;
+
+    ghost lists = { λ m. m.bits };
+
+    ghost growth = { bit_growth };
+}
+
+impl TryPush<bool> for MutableBitmap {
+    ghost shown = { λ bit. bit };
+
+    fn try_push(&mut self, item: bool) -> Result<(), PolarsError> {
+        self.push(item)
+    }
+}
+
+impl TryExtendFromSelf for MutableBitmap {
+    ghost use Rattle.std.specs.Prelude.{⊤, ◌++◌, None};
+
+    ghost fits = { λ _ _. ⊤ };
+
+    ghost join_fault = { λ _ _. None };
+
+    ghost joined = { λ bits others. bits ++ others };
+
+    fn try_extend_from_self(&mut self, other: &Self) -> Result<(), PolarsError> {
+        MutableBitmap::try_extend_from_self(self, other)
     }
 }
