@@ -3,6 +3,8 @@
 #![tactic(auto)]
 
 #[cfg(test)]
+mod builder;
+#[cfg(test)]
 mod cases;
 #[cfg(test)]
 mod checks;

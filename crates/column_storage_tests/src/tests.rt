@@ -2,5 +2,6 @@
 
 mod bits;
 mod buffers;
+mod growing;
 mod iterators;
 mod validity;

@@ -3,13 +3,12 @@
 ghost use Rattle.std.specs.Prelude.{◌≡◌, ◌≤◌, ◌++◌, ◌∷◌, [], true, false};
 
 use column_base::PolarsError;
+use column_checks::gives;
 use column_storage::{BitOperation, Bitmap, MutableBitmap};
 use std::alloc::Global;
 
 fn are(bits: &Bitmap, wanted: &[bool]) -> bool {
-    bits.len() == wanted.len()
-        && bits.is_empty() == wanted.is_empty()
-        && bits.iter().eq(wanted.iter().copied())
+    bits.len() == wanted.len() && bits.is_empty() == wanted.is_empty() && gives(bits.iter(), wanted)
 }
 
 // The set bits are what is left of all.
@@ -117,7 +116,7 @@ fn grown_are(bits: &MutableBitmap, wanted: &[bool], set: usize, unset: usize) ->
         && bits.is_empty() == wanted.is_empty()
         && bits.set_bits() == set
         && bits.unset_bits() == unset
-        && bits.iter().eq(wanted.iter().copied())
+        && gives(bits.iter(), wanted)
 }
 
 fn first_is_unset(mut bits: MutableBitmap) -> bool {
@@ -152,7 +151,7 @@ pub fn bits_are_taken(alloc: Global) -> Result<bool, PolarsError> {
     )
 }
 
-pub fn room_is_given_back(alloc: Global) -> Result<bool, PolarsError> {
+pub fn bits_stay_where_room_goes(alloc: Global) -> Result<bool, PolarsError> {
     let mut bits = MutableBitmap::with_capacity(alloc, 9)?;
     bits.push(false)?;
     bits.shrink_to_fit();

@@ -2,6 +2,7 @@
 
 use crate::cases::flags;
 use column_base::PolarsError;
+use column_checks::{gives, gives_back};
 use column_storage::{
     ArrayValuesIter, Bitmap, BitmapIter, Buffer, NonNullValuesIter, TrueIdxIter, ZipValidity,
 };
@@ -11,9 +12,7 @@ use std::alloc::Global;
 
 pub fn values_are(numbers: &Buffer<i32>, wanted: &[i32], back: &[i32]) -> bool {
     let values = ArrayValuesIter::new(numbers);
-    values.len() == wanted.len()
-        && values.eq(wanted.iter().copied())
-        && values.rev().eq(back.iter().copied())
+    values.len() == wanted.len() && gives(values, wanted) && gives_back(values, back)
 }
 
 pub fn values_rise(numbers: &Buffer<i32>) -> bool {
@@ -50,8 +49,8 @@ pub fn bits_are(bits: &Bitmap, wanted: &[bool], back: &[bool]) -> bool {
     let all = bits.iter();
     all.len() == wanted.len()
         && all.size_hint() == (wanted.len(), Some(wanted.len()))
-        && all.eq(wanted.iter().copied())
-        && all.rev().eq(back.iter().copied())
+        && gives(all, wanted)
+        && gives_back(all, back)
 }
 
 pub fn one_bit_is_unset(bits: &Bitmap, place: usize) -> bool {
@@ -66,7 +65,7 @@ pub fn one_bit_is_unset(bits: &Bitmap, place: usize) -> bool {
 // ---- places
 
 pub fn places_are(flags: &Bitmap, wanted: &[usize]) -> bool {
-    TrueIdxIter::new(flags.len(), Some(flags)).eq(wanted.iter().copied())
+    gives(TrueIdxIter::new(flags.len(), Some(flags)), wanted)
 }
 
 pub fn no_place_is(flags: &Bitmap, place: usize) -> bool {
@@ -80,7 +79,7 @@ pub fn no_place_is(flags: &Bitmap, place: usize) -> bool {
 
 pub fn all_places_are(count: usize, wanted: &[usize]) -> bool {
     let places = TrueIdxIter::new(count, None);
-    places.size_hint() == (count, Some(count)) && places.eq(wanted.iter().copied())
+    places.size_hint() == (count, Some(count)) && gives(places, wanted)
 }
 
 // ---- values of valid slots
@@ -89,9 +88,9 @@ pub fn valid_values_are(numbers: &Buffer<i32>, flags: Option<&Bitmap>, wanted: &
     match flags {
         Some(bits) => {
             bits.len() == numbers.len()
-                && NonNullValuesIter::new(numbers, Some(bits)).eq(wanted.iter().copied())
+                && gives(NonNullValuesIter::new(numbers, Some(bits)), wanted)
         }
-        None => NonNullValuesIter::new(numbers, None).eq(wanted.iter().copied()),
+        None => gives(NonNullValuesIter::new(numbers, None), wanted),
     }
 }
 
@@ -111,20 +110,25 @@ fn no_valid_value_is(numbers: &Buffer<i32>, flags: &Bitmap, other: i32) -> bool 
 
 fn rows_are(numbers: &Buffer<i32>, flags: &Bitmap, wanted: &[Option<i32>]) -> bool {
     flags.len() == numbers.len()
-        && ZipValidity::new_with_validity(ArrayValuesIter::new(numbers), Some(flags)).eq(
-            wanted.iter().copied(),
+        && gives(
+            ZipValidity::new_with_validity(ArrayValuesIter::new(numbers), Some(flags)),
+            wanted,
         )
 }
 
 fn rows_from_the_back_are(numbers: &Buffer<i32>, flags: &Bitmap, wanted: &[Option<i32>]) -> bool {
     flags.len() == numbers.len()
-        && ZipValidity::new(ArrayValuesIter::new(numbers), Some(flags.iter()))
-            .rev()
-            .eq(wanted.iter().copied())
+        && gives_back(
+            ZipValidity::new(ArrayValuesIter::new(numbers), Some(flags.iter())),
+            wanted,
+        )
 }
 
 pub fn rows_without_flags_are(numbers: &Buffer<i32>, wanted: &[Option<i32>]) -> bool {
-    ZipValidity::new_with_validity(ArrayValuesIter::new(numbers), None).eq(wanted.iter().copied())
+    gives(
+        ZipValidity::new_with_validity(ArrayValuesIter::new(numbers), None),
+        wanted,
+    )
 }
 
 pub fn no_row_is_null(numbers: &Buffer<i32>) -> bool {

@@ -1,6 +1,7 @@
 //! Validities.
 
 use column_base::{Cause, PolarsError};
+use column_checks::gives;
 use column_storage::{
     Bitmap, check_validity, is_valid_at, null_count, share_validity, slice_validity,
 };
@@ -69,7 +70,7 @@ fn share_is(
     wanted: &[bool],
 ) -> Result<bool, PolarsError> {
     match share_validity(alloc, validity)? {
-        Some(share) => Ok(share.iter().eq(wanted.iter().copied())),
+        Some(share) => Ok(gives(share.iter(), wanted)),
         None => Ok(false),
     }
 }

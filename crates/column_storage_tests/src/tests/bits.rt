@@ -1,8 +1,8 @@
 use crate::checks::bits::{
-    an_unset_bit_is_a_validity, bits_are_added, bits_are_frozen, bits_are_taken, four_are_cut,
-    four_are_read, operations_leave, room_is_given_back, room_takes_bits, set_bits_are,
-    set_bits_are_no_validity, set_bits_split, shared_bits_are_changed, slices_share_four,
-    unset_bits_are,
+    an_unset_bit_is_a_validity, bits_are_added, bits_are_frozen, bits_are_taken,
+    bits_stay_where_room_goes, four_are_cut, four_are_read, operations_leave, room_takes_bits,
+    set_bits_are, set_bits_are_no_validity, set_bits_split, shared_bits_are_changed,
+    slices_share_four, unset_bits_are,
 };
 use crate::checks::counts::{chain_is_counted, split_is_counted};
 use column_storage::BitOperation;
@@ -42,7 +42,7 @@ fn bits_have_one_value(rt: HostRuntime) -> Result<(), Fail> {
 fn bits_are_added_and_taken(rt: HostRuntime) -> Result<(), Fail> {
     assert!(rt; bits_are_added(rt.alloc())?);
     assert!(rt; bits_are_taken(rt.alloc())?);
-    assert!(rt; room_is_given_back(rt.alloc())?);
+    assert!(rt; bits_stay_where_room_goes(rt.alloc())?);
     assert!(rt; room_takes_bits(rt.alloc())?);
     assert!(rt; bits_are_frozen(rt.alloc())?);
     Ok(())
