@@ -87,6 +87,11 @@ pub extended-snoc : (offsets : List ℤ) (lengths : List ℕ) (n : ℕ) → exte
 extended-snoc offsets [] n = refl
 extended-snoc offsets (m ∷ lengths) n = extended-snoc (pushed offsets m) lengths n
 
+pub sound_extended : (offsets : List ℤ) (lengths : List ℕ) → AreSoundOffsets offsets → AreSoundOffsets (extended offsets lengths)
+sound_extended offsets [] sound = sound
+sound_extended offsets (n ∷ lengths) sound =
+    sound_extended (pushed offsets n) lengths (sound_push offsets (last_of offsets +ℤ pos n) sound (rises_by _ n))
+
 pub length-extended : (offsets : List ℤ) (lengths : List ℕ) → length (extended offsets lengths) ≡ length offsets + length lengths
 length-extended offsets [] = omega arith
 length-extended offsets (n ∷ lengths) =

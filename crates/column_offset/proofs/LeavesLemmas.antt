@@ -92,6 +92,6 @@ fits_rest f xs levels some fits =
     let same : last_of (map f (take (length xs - 1) (drop 1 xs))) ≡ last_of (map f xs) = ap last_of rest ∙ last in
     subst (λ (n : ℤ). fits_levels (nat_of n) levels ≡ true) (sym same) fits
 
-pub ruleset leaves = (first_fits)
+pub ruleset leaves = (first_fits, length-map)
 
 pub ruleset counts = (length-leaf_ranges)

@@ -4,3 +4,4 @@ pub mod Growth
 pub mod Keys
 pub mod Leaves
 pub mod Operations
+pub mod Iterators

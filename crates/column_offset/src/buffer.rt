@@ -1,11 +1,13 @@
 //! Offsets that are shared.
 
-ghost use Rattle.std.specs.Prelude.{◌≡◌, ◌+◌, ◌-◌, ◌≤◌, ◌<◌, length, length as list_length, map, pos, ◌≤ℤ◌, ◌+ℤ◌, [], ◌∷◌, None};
+ghost use Rattle.std.specs.Prelude.{◌≡◌, ◌+◌, ◌-◌, ◌^◌, ◌≤◌, ◌<◌, length, length as list_length, map, pos, ◌≤ℤ◌, ◌+ℤ◌, [], ◌∷◌, None};
 ghost use Rattle.column_base.specs.Answers.{Gives, Answers};
 ghost use Rattle.column_base.specs.Lists.{sublist};
 ghost use Rattle.column_offset.specs.Offsets.{AreSoundOffsets, offsets_fault, offset_at, last_of, nat_of};
+ghost use Rattle.column_offset.specs.Growth.{lengths_of, starts_and_lengths_of};
+ghost use Rattle.column_offset.specs.Iterators.{lengths_left, pairs_left};
 
-use crate::checks::{distance, last_place, offset_of, place, try_check_offsets};
+use crate::checks::{distance, last_place, offset_of, places_of, try_check_offsets};
 use crate::iterator::{Lengths, OffsetAndLengthIter};
 use crate::offsets::Offsets;
 use column_base::{Offset, PolarsError, Splitable};
@@ -109,12 +111,14 @@ impl<O: Offset> OffsetsBuffer<O> {
         OffsetsBuffer { offsets }
     }
 
-    /// Tells proofs that the offsets are sound, and that the last one, and so each, is a value of its type.
+    /// Tells proofs that the offsets are sound, that the last one, and so each, is a value of its type, and that their
+    /// number is a `usize`.
     pub fn known(&self)
         ensures sound { AreSoundOffsets self.now }
         ensures within_type { last_of self.now ≤ℤ pos O.GREATEST }
+        ensures fits { length self.now < 2 ^ 64 }
     {
-        let _offsets = &self.offsets;
+        let _count = self.offsets.len();
     }
 
     /// The number of offsets, one more than that of slots.
@@ -156,7 +160,6 @@ impl<O: Offset> OffsetsBuffer<O> {
     }
 
     /// Where slot `index` starts and ends.
-    #[tactic(auto, using(crate::proofs::OffsetsLemmas::sound_offsets))]
     pub fn start_end(&self, index: usize) -> (usize, usize)
         requires { index + 1 < length self.now }
         ensures start { result.0 ≡ nat_of (offset_at self.now index) }
@@ -164,8 +167,7 @@ impl<O: Offset> OffsetsBuffer<O> {
         ensures order { result.0 ≤ result.1 }
         ensures within { result.1 ≤ nat_of (last_of self.now) }
     {
-        let offsets = self.offsets.as_slice();
-        (place(offsets, index), place(offsets, index + 1))
+        places_of(self.offsets.as_slice(), index)
     }
 
     /// The number of bytes of slot `index`.
@@ -207,14 +209,14 @@ impl<O: Offset> OffsetsBuffer<O> {
 
     /// The lengths of the slots, first to last.
     pub fn lengths(&self) -> Lengths<'_, O>
-        ensures { map O.int result.offsets.now ≡ self.now }
+        ensures { lengths_left result ≡ lengths_of self.now }
     {
         Lengths::new(self.as_slice())
     }
 
     /// Where each slot starts, and its length, first to last.
     pub fn offset_and_length_iter(&self) -> OffsetAndLengthIter<'_, O>
-        ensures { map O.int result.offsets.now ≡ self.now }
+        ensures { pairs_left result ≡ starts_and_lengths_of self.now }
     {
         OffsetAndLengthIter::new(self.as_slice())
     }
@@ -267,7 +269,7 @@ impl<O: Offset> OffsetsBuffer<O> {
     }
 }
 
-#[tactic(auto, using(column_base::proofs::ListsLemmas::sublists, crate::proofs::OffsetsLemmas::sound_offsets))]
+#[tactic(auto, using(column_base::proofs::ListsLemmas::sublists))]
 impl<O: Offset> Splitable for OffsetsBuffer<O> {
     ghost use Rattle.std.specs.Prelude.{◌+◌, ◌-◌, length, take, drop};
 

@@ -2,7 +2,7 @@
 
 ghost use Rattle.std.specs.Prelude.{◌≡◌, ◌↔◌, ℕ, ℤ, List, None, ◌+◌, ◌<◌, ◌≤◌, pos, ◌≤ℤ◌, length, map, ⊤};
 ghost use Rattle.column_base.specs.Answers.{Gives, GivesCause};
-ghost use Rattle.column_offset.specs.Offsets.{nat_of, offset_at, last_of, offsets_fault, bounds_fault, AreSoundOffsets};
+ghost use Rattle.column_offset.specs.Offsets.{nat_of, offset_at, last_of, falls, offsets_fault, bounds_fault, AreSoundOffsets};
 
 use column_base::{Cause, Offset, PolarsError};
 
@@ -13,22 +13,29 @@ use column_base::{Cause, Offset, PolarsError};
 pub fn check_offsets<O: Offset>(offsets: &[O]) -> Result<(), Cause>
     ensures { GivesCause result (offsets_fault (map O.int offsets.now)) (λ _. ⊤) }
 {
-    let Some(first) = offsets.first() else {
+    let [first, rest @ ..] = offsets else {
         return Err(Cause::OffsetsEmpty);
     };
     if *first < O::zero() {
         return Err(Cause::OffsetsNegative);
     }
-    let mut last = *first;
+    if any_falls(*first, rest) {
+        return Err(Cause::OffsetsNotMonotone);
+    }
+    Ok(())
+}
+
+/// Whether some number is below the one before it, the first of them after `before`. Looks at all, with no branch for each.
+fn any_falls<O: Offset>(before: O, offsets: &[O]) -> bool
+    ensures { result ≡ falls (O.int before) (map O.int offsets.now) }
+{
+    let mut last = before;
     let mut any_falls = false;
     for offset in offsets {
         any_falls |= *offset < last;
         last = *offset;
     }
-    if any_falls {
-        return Err(Cause::OffsetsNotMonotone);
-    }
-    Ok(())
+    any_falls
 }
 
 /// The same as [`check_offsets`], with the cause as an error.
@@ -85,6 +92,19 @@ pub(crate) fn place<O: Offset>(offsets: &[O], index: usize) -> usize
     ensures limit { result ≤ O.GREATEST }
 {
     offset_of(offsets, index).to_usize()
+}
+
+/// Where slot `index` of sound offsets starts and ends, as places.
+#[tactic(auto, using(crate::proofs::OffsetsLemmas::sound_offsets))]
+pub(crate) fn places_of<O: Offset>(offsets: &[O], index: usize) -> (usize, usize)
+    requires sound { AreSoundOffsets (map O.int offsets.now) }
+    requires within { index + 1 < length offsets.now }
+    ensures start { result.0 ≡ nat_of (offset_at (map O.int offsets.now) index) }
+    ensures end { result.1 ≡ nat_of (offset_at (map O.int offsets.now) (index + 1)) }
+    ensures order { result.0 ≤ result.1 }
+    ensures last { result.1 ≤ nat_of (last_of (map O.int offsets.now)) }
+{
+    (place(offsets, index), place(offsets, index + 1))
 }
 
 /// The last of sound offsets, as a place.

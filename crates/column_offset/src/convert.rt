@@ -12,32 +12,22 @@ use column_base::{Cause, Offset, PolarsError};
 use column_storage::Buffer;
 use std::alloc::Global;
 
-/// The numbers in 64 bits.
-fn widened(alloc: Global, offsets: &[i32]) -> Result<Vec<i64>, PolarsError>
-    ensures { Answers result None (λ v. v.items ≡ offsets.now) }
-{
-    let mut wide = Vec::with_capacity(alloc, offsets.len())?;
-    for offset in offsets {
-        wide.push(i64::from(*offset))?;
-    }
-    Ok(wide)
-}
-
 /// Sound offsets in another type. `Overflow` where the last one passes it.
-fn narrowed<A: Offset, B: Offset>(alloc: Global, offsets: &[A]) -> Result<Vec<B>, PolarsError>
+fn converted<A: Offset, B: Offset>(alloc: Global, offsets: &[A]) -> Result<Vec<B>, PolarsError>
     requires { AreSoundOffsets (map A.int offsets.now) }
     ensures { Answers result (limit_fault B.GREATEST (last_of (map A.int offsets.now))) (λ v. map B.int v.items ≡ map A.int offsets.now) }
 {
     if last_place(offsets) > B::GREATEST {
         return Err(Cause::Overflow.into());
     }
-    let mut narrow = Vec::with_capacity(alloc, offsets.len())?;
+    let mut converted = Vec::with_capacity(alloc, offsets.len())?;
     for i in 0..offsets.len() {
-        narrow.push(B::from_as_usize(place(offsets, i)))?;
+        converted.push(B::from_as_usize(place(offsets, i)))?;
     }
-    Ok(narrow)
+    Ok(converted)
 }
 
+#[tactic(auto, using(crate::proofs::GrowthLemmas::within_limit))]
 impl Offsets<i64> {
     /// The same offsets in 64 bits.
     ///
@@ -45,7 +35,8 @@ impl Offsets<i64> {
     pub fn widen(alloc: Global, offsets: Offsets<i32>) -> Result<Self, PolarsError>
         ensures { Answers result None (λ o. o.offsets ≡ offsets.offsets) }
     {
-        Ok(Offsets::new_unchecked(widened(alloc, offsets.as_slice())?))
+        offsets.known();
+        Ok(Offsets::new_unchecked(converted(alloc, offsets.as_slice())?))
     }
 }
 
@@ -57,7 +48,7 @@ impl Offsets<i32> {
     pub fn narrow(alloc: Global, offsets: Offsets<i64>) -> Result<Self, PolarsError>
         ensures { Answers result (limit_fault 2147483647 (last_of offsets.offsets)) (λ o. o.offsets ≡ offsets.offsets) }
     {
-        Ok(Offsets::new_unchecked(narrowed(alloc, offsets.as_slice())?))
+        Ok(Offsets::new_unchecked(converted(alloc, offsets.as_slice())?))
     }
 
     /// Law of widening: to 64 bits and back the offsets are the same, and nothing is refused but for want of memory.
@@ -69,6 +60,7 @@ impl Offsets<i32> {
     }
 }
 
+#[tactic(auto, using(crate::proofs::GrowthLemmas::within_limit))]
 impl OffsetsBuffer<i64> {
     /// The same offsets in 64 bits.
     ///
@@ -76,7 +68,8 @@ impl OffsetsBuffer<i64> {
     pub fn widen(alloc: Global, offsets: &OffsetsBuffer<i32>) -> Result<Self, PolarsError>
         ensures { Answers result None (λ b. b ≡ offsets.now) }
     {
-        let wide = widened(alloc, offsets.as_slice())?;
+        offsets.known();
+        let wide = converted(alloc, offsets.as_slice())?;
         Ok(OffsetsBuffer::new_unchecked(Buffer::from_vec(alloc, wide)?))
     }
 }
@@ -89,7 +82,7 @@ impl OffsetsBuffer<i32> {
     pub fn narrow(alloc: Global, offsets: &OffsetsBuffer<i64>) -> Result<Self, PolarsError>
         ensures { Answers result (limit_fault 2147483647 (last_of offsets.now)) (λ b. b ≡ offsets.now) }
     {
-        let narrow = narrowed(alloc, offsets.as_slice())?;
+        let narrow = converted(alloc, offsets.as_slice())?;
         Ok(OffsetsBuffer::new_unchecked(Buffer::from_vec(alloc, narrow)?))
     }
 

@@ -3,7 +3,7 @@
 ghost use Rattle.std.specs.Prelude.{map};
 ghost use Rattle.column_offset.specs.Offsets.{AreSoundOffsets};
 
-use crate::checks::place;
+use crate::checks::places_of;
 use column_base::Offset;
 use std::iter::FusedIterator;
 
@@ -16,11 +16,13 @@ pub struct Lengths<'a, O: Offset> {
 
 impl<'a, O: Offset> Lengths<'a, O> {
     ghost use Rattle.std.specs.Prelude.{◌≡◌};
+    ghost use Rattle.column_offset.specs.Growth.{lengths_of};
+    ghost use Rattle.column_offset.specs.Iterators.{lengths_left};
 
     // The slots of sound offsets.
     pub(crate) fn new(offsets: &'a [O]) -> Self
         requires { AreSoundOffsets (map O.int offsets.now) }
-        ensures { result.offsets.now ≡ offsets.now }
+        ensures { lengths_left result ≡ lengths_of (map O.int offsets.now) }
     {
         Lengths { offsets }
     }
@@ -28,30 +30,30 @@ impl<'a, O: Offset> Lengths<'a, O> {
 
 #[tactic(auto, using(crate::proofs::SlotsLemmas::lengths))]
 impl<'a, O: Offset> Iterator for Lengths<'a, O> {
-    ghost use Rattle.std.specs.Prelude.{◌≡◌, length, map, Some, IfSome};
-    ghost use Rattle.std.specs.Iterator.{YieldsFirst, item_count, UpTo, at_most};
+    ghost use Rattle.std.specs.Prelude.{◌≡◌, length, Some, IfSome};
+    ghost use Rattle.std.specs.Iterator.{YieldsFirst, item_count, UpTo};
     ghost use Rattle.std.specs.Iterator.SizeHint.{IsWithinCount};
-    ghost use Rattle.column_offset.specs.Growth.{lengths_of};
+    ghost use Rattle.column_offset.specs.Iterators.{lengths_left};
 
     type Item = usize;
 
-    ghost next_gives = { YieldsFirst (λ s. lengths_of (map O.int s.offsets.now)) };
+    ghost next_gives = { YieldsFirst lengths_left };
 
-    ghost remaining = { item_count (λ s. lengths_of (map O.int s.offsets.now)) };
+    ghost remaining = { item_count lengths_left };
 
     fn next(&mut self) -> Option<usize> {
         if self.offsets.len() < 2 {
             return None;
         }
-        let length = place(self.offsets, 1) - place(self.offsets, 0);
+        let (start, end) = places_of(self.offsets, 0);
         self.offsets = &self.offsets[1..];
-        Some(length)
+        Some(end - start)
     }
 
     fn size_hint(&self) -> (usize, Option<usize>)
-        ensures lower { IsWithinCount result.0 (at_most (length (lengths_of (map O.int self.now.offsets.now)))) }
-        ensures upper { IfSome result.1 (UpTo (at_most (length (lengths_of (map O.int self.now.offsets.now))))) }
-        ensures exact { let left = length (lengths_of (map O.int self.now.offsets.now)) in result ≡ (left, Some left) }
+        ensures exact { let n = length (lengths_left self.now) in result ≡ (n, Some n) }
+        ensures lower { IsWithinCount result.0 (item_count lengths_left self.now) }
+        ensures upper { IfSome result.1 (UpTo (item_count lengths_left self.now)) }
     {
         let left = self.offsets.len() - 1;
         (left, Some(left))
@@ -76,11 +78,13 @@ pub struct OffsetAndLengthIter<'a, O: Offset> {
 
 impl<'a, O: Offset> OffsetAndLengthIter<'a, O> {
     ghost use Rattle.std.specs.Prelude.{◌≡◌};
+    ghost use Rattle.column_offset.specs.Growth.{starts_and_lengths_of};
+    ghost use Rattle.column_offset.specs.Iterators.{pairs_left};
 
     // The slots of sound offsets.
     pub(crate) fn new(offsets: &'a [O]) -> Self
         requires { AreSoundOffsets (map O.int offsets.now) }
-        ensures { result.offsets.now ≡ offsets.now }
+        ensures { pairs_left result ≡ starts_and_lengths_of (map O.int offsets.now) }
     {
         OffsetAndLengthIter { offsets }
     }
@@ -88,31 +92,30 @@ impl<'a, O: Offset> OffsetAndLengthIter<'a, O> {
 
 #[tactic(auto, using(crate::proofs::SlotsLemmas::pairs))]
 impl<'a, O: Offset> Iterator for OffsetAndLengthIter<'a, O> {
-    ghost use Rattle.std.specs.Prelude.{◌≡◌, length, map, Some, IfSome};
-    ghost use Rattle.std.specs.Iterator.{YieldsFirst, item_count, UpTo, at_most};
+    ghost use Rattle.std.specs.Prelude.{◌≡◌, length, Some, IfSome};
+    ghost use Rattle.std.specs.Iterator.{YieldsFirst, item_count, UpTo};
     ghost use Rattle.std.specs.Iterator.SizeHint.{IsWithinCount};
-    ghost use Rattle.column_offset.specs.Growth.{starts_and_lengths_of};
+    ghost use Rattle.column_offset.specs.Iterators.{pairs_left};
 
     type Item = (usize, usize);
 
-    ghost next_gives = { YieldsFirst (λ s. starts_and_lengths_of (map O.int s.offsets.now)) };
+    ghost next_gives = { YieldsFirst pairs_left };
 
-    ghost remaining = { item_count (λ s. starts_and_lengths_of (map O.int s.offsets.now)) };
+    ghost remaining = { item_count pairs_left };
 
     fn next(&mut self) -> Option<(usize, usize)> {
         if self.offsets.len() < 2 {
             return None;
         }
-        let start = place(self.offsets, 0);
-        let length = place(self.offsets, 1) - start;
+        let (start, end) = places_of(self.offsets, 0);
         self.offsets = &self.offsets[1..];
-        Some((start, length))
+        Some((start, end - start))
     }
 
     fn size_hint(&self) -> (usize, Option<usize>)
-        ensures lower { IsWithinCount result.0 (at_most (length (starts_and_lengths_of (map O.int self.now.offsets.now)))) }
-        ensures upper { IfSome result.1 (UpTo (at_most (length (starts_and_lengths_of (map O.int self.now.offsets.now))))) }
-        ensures exact { let left = length (starts_and_lengths_of (map O.int self.now.offsets.now)) in result ≡ (left, Some left) }
+        ensures exact { let n = length (pairs_left self.now) in result ≡ (n, Some n) }
+        ensures lower { IsWithinCount result.0 (item_count pairs_left self.now) }
+        ensures upper { IfSome result.1 (UpTo (item_count pairs_left self.now)) }
     {
         let left = self.offsets.len() - 1;
         (left, Some(left))

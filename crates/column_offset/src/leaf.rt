@@ -2,10 +2,10 @@
 
 ghost use Rattle.std.specs.Prelude.{◌≡◌, ◌<◌, ◌≤◌, true, length, map};
 ghost use Rattle.column_offset.specs.Offsets.{AreSoundOffsets, offset_at, last_of, nat_of};
-ghost use Rattle.column_offset.specs.Leaves.{leaf_place, fits_levels, are_levels, leaf_ranges, all_leaf_ranges, leaf_full_range};
+ghost use Rattle.column_offset.specs.Leaves.{leaf_place, fits_levels, are_levels, all_leaf_ranges, leaf_full_range};
 
 use crate::buffer::OffsetsBuffer;
-use crate::checks::place;
+use crate::checks::{place, places_of};
 use column_base::Offset;
 use std::iter::FusedIterator;
 use std::ops::Range;
@@ -45,33 +45,32 @@ pub struct LeafRanges<'a, O: Offset> {
 }
 
 impl<'a, O: Offset> Iterator for LeafRanges<'a, O> {
-    ghost use Rattle.std.specs.Prelude.{◌≡◌, length, map, Some, IfSome};
-    ghost use Rattle.std.specs.Iterator.{YieldsFirstBy, item_count, UpTo, at_most};
+    ghost use Rattle.std.specs.Prelude.{◌≡◌, length, Some, IfSome};
+    ghost use Rattle.std.specs.Iterator.{YieldsFirstBy, item_count, UpTo};
     ghost use Rattle.std.specs.Iterator.SizeHint.{IsWithinCount};
-    ghost use Rattle.column_offset.specs.Leaves.{leaf_ranges};
+    ghost use Rattle.column_offset.specs.Iterators.{ranges_left};
 
     type Item = Range<usize>;
 
-    ghost next_gives = { YieldsFirstBy (λ range. (range.start, range.end)) (λ s. leaf_ranges (map O.int s.offsets.now) s.levels.now) };
+    ghost next_gives = { YieldsFirstBy (λ range. (range.start, range.end)) ranges_left };
 
-    ghost remaining = { item_count (λ s. leaf_ranges (map O.int s.offsets.now) s.levels.now) };
+    ghost remaining = { item_count ranges_left };
 
-    #[tactic(auto, using(crate::proofs::LeavesLemmas::leaves, crate::proofs::OffsetsLemmas::sound_offsets))]
+    #[tactic(auto, using(crate::proofs::LeavesLemmas::leaves))]
     fn next(&mut self) -> Option<Range<usize>> {
         if self.offsets.len() < 2 {
             return None;
         }
-        let start = descend(self.levels, place(self.offsets, 0));
-        let end = descend(self.levels, place(self.offsets, 1));
+        let (start, end) = places_of(self.offsets, 0);
         self.offsets = &self.offsets[1..];
-        Some(start..end)
+        Some(descend(self.levels, start)..descend(self.levels, end))
     }
 
     #[tactic(auto, using(crate::proofs::LeavesLemmas::counts, crate::proofs::OffsetsLemmas::sound_offsets))]
     fn size_hint(&self) -> (usize, Option<usize>)
-        ensures lower { IsWithinCount result.0 (at_most (length (leaf_ranges (map O.int self.now.offsets.now) self.now.levels.now))) }
-        ensures upper { IfSome result.1 (UpTo (at_most (length (leaf_ranges (map O.int self.now.offsets.now) self.now.levels.now)))) }
-        ensures exact { let left = length (leaf_ranges (map O.int self.now.offsets.now) self.now.levels.now) in result ≡ (left, Some left) }
+        ensures exact { let n = length (ranges_left self.now) in result ≡ (n, Some n) }
+        ensures lower { IsWithinCount result.0 (item_count ranges_left self.now) }
+        ensures upper { IfSome result.1 (UpTo (item_count ranges_left self.now)) }
     {
         let left = self.offsets.len() - 1;
         (left, Some(left))
@@ -81,12 +80,14 @@ impl<'a, O: Offset> Iterator for LeafRanges<'a, O> {
 impl<'a, O: Offset> FusedIterator for LeafRanges<'a, O> {}
 
 impl<O: Offset> OffsetsBuffer<O> {
+    ghost use Rattle.column_offset.specs.Iterators.{ranges_left};
+
     /// The range of values of each slot of the first level, through the levels below it.
     ///
     /// There is a level, and each level's last offset is at most the next one's number of slots. Takes no memory.
     pub fn leaf_ranges_iter(offsets: &[OffsetsBuffer<O>]) -> LeafRanges<'_, O>
         requires { are_levels offsets.now ≡ true }
-        ensures { leaf_ranges (map O.int result.offsets.now) result.levels.now ≡ all_leaf_ranges offsets.now }
+        ensures { ranges_left result ≡ all_leaf_ranges offsets.now }
     {
         match offsets {
             [first, levels @ ..] => LeafRanges {

@@ -1,6 +1,6 @@
 //! Offsets that grow.
 
-ghost use Rattle.std.specs.Prelude.{◌≡◌, ℕ, ◌+◌, ◌-◌, ◌^◌, ◌<◌, ◌≤◌, ℤ, pos, ◌≤ℤ◌, ◌+ℤ◌, List, [], ◌∷◌, ◌++◌, ◌⊎◌, length, length as list_length, map, replicate, sum, None, ⊤, OnOk, OnErr, MatchOption, IsOk, Err};
+ghost use Rattle.std.specs.Prelude.{◌≡◌, ℕ, ◌+◌, ◌-◌, ◌<◌, ◌≤◌, ℤ, pos, ◌≤ℤ◌, ◌+ℤ◌, List, [], ◌∷◌, ◌++◌, ◌⊎◌, length, length as list_length, map, replicate, sum, None, ⊤, OnOk, OnErr, MatchOption, IsOk, Err};
 ghost use Rattle.std.specs.Iterator.{IsFinite};
 ghost use Rattle.column_base.specs.declared.errors.Cause.TheVariants.{Overflow};
 ghost use Rattle.column_base.specs.Answers.{Gives, Answers};
@@ -10,7 +10,7 @@ ghost use Rattle.column_offset.specs.Offsets.{AreSoundOffsets, offsets_fault, of
 ghost use Rattle.column_offset.specs.Growth.{pushed, extended, lengths_of, limit_fault, ExtendsByLengths, MadeByLengths};
 
 use crate::buffer::OffsetsBuffer;
-use crate::checks::{last_place, offset_of, place, try_check_offsets};
+use crate::checks::{last_place, offset_of, places_of, try_check_offsets};
 use crate::growth::{push_length, push_lengths};
 use crate::iterator::Lengths;
 use column_base::{Offset, PolarsError};
@@ -20,7 +20,7 @@ use std::marker::Model;
 /// Sound offsets that grow, semantically the list of their numbers.
 ///
 /// The list is not empty, starts at 0 or more and never falls. It keeps its allocator, and a refused call leaves it as
-/// it was. Arrow columnar format, "Variable-size Binary Layout".
+/// it was, with room for at least as many slots as before. Arrow columnar format, "Variable-size Binary Layout".
 #[derive(Drop)]
 pub struct Offsets<O: Offset> {
     offsets: Vec<O>,
@@ -67,7 +67,6 @@ impl<O: Offset> Offsets<O> {
     ///
     /// `NoMemory` where there is none for them.
     pub fn new_zeroed(alloc: Global, length: usize) -> Result<Self, PolarsError>
-        requires { length + 1 < 2 ^ 64 }
         ensures { Answers result None (λ o. o.offsets ≡ replicate (length + 1) (pos 0)) }
     {
         let mut offsets = Offsets::with_capacity(alloc, length)?;
@@ -149,7 +148,6 @@ impl<O: Offset> Offsets<O> {
     }
 
     /// Where slot `index` starts and ends.
-    #[tactic(auto, using(crate::proofs::OffsetsLemmas::sound_offsets))]
     pub fn start_end(&self, index: usize) -> (usize, usize)
         requires { index + 1 < length self.now.offsets }
         ensures start { result.0 ≡ nat_of (offset_at self.now.offsets index) }
@@ -157,8 +155,7 @@ impl<O: Offset> Offsets<O> {
         ensures order { result.0 ≤ result.1 }
         ensures within { result.1 ≤ nat_of (last_of self.now.offsets) }
     {
-        let offsets = self.offsets.as_slice();
-        (place(offsets, index), place(offsets, index + 1))
+        places_of(self.offsets.as_slice(), index)
     }
 
     /// The same as [`Offsets::start_end`].

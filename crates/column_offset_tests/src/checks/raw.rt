@@ -4,15 +4,15 @@ use crate::cases::{error, shared as share};
 use crate::checks::shared;
 use column_base::{Cause, Offset, PolarsError};
 use column_offset::{
-    IndexKey, Offsets, check_indexes, no_fault_is_sound, try_check_offsets,
-    try_check_offsets_bounds, try_check_utf8,
+    IndexKey, Offsets, check_indexes, check_offsets, check_offsets_bounds, check_utf8,
+    no_fault_is_sound, try_check_offsets, try_check_offsets_bounds, try_check_utf8,
 };
 use std::alloc::Global;
 
 // ---- raw numbers
 
 fn numbers_are_told<O: Offset>(numbers: &[O], cause: Option<Cause>) -> bool {
-    try_check_offsets(numbers).err() == error(cause)
+    check_offsets(numbers).err() == cause && try_check_offsets(numbers).err() == error(cause)
 }
 
 fn vector_is_told<O: Offset>(
@@ -31,7 +31,11 @@ pub fn bound_is_told<O: Offset>(
     cause: Option<Cause>,
 ) -> Result<bool, PolarsError> {
     let offsets = share(alloc, numbers)?;
-    Ok(try_check_offsets_bounds(offsets.as_slice(), count).err() == error(cause))
+    offsets.known();
+    Ok(
+        check_offsets_bounds(offsets.as_slice(), count).err() == cause
+            && try_check_offsets_bounds(offsets.as_slice(), count).err() == error(cause),
+    )
 }
 
 /// Raw numbers that the check lets through are made offsets without a second one.
@@ -41,7 +45,9 @@ fn checked_once<O: Offset>(alloc: Global, numbers: &[O]) -> Result<bool, PolarsE
         return Ok(false);
     }
     no_fault_is_sound();
-    Ok(Offsets::new_unchecked(items).as_slice() == numbers)
+    let offsets = Offsets::new_unchecked(items);
+    offsets.known();
+    Ok(offsets.as_slice() == numbers)
 }
 
 /// The check, and each constructor that makes it.
@@ -68,7 +74,10 @@ pub fn cut_is_told<O: Offset>(
     cause: Option<Cause>,
 ) -> Result<bool, PolarsError> {
     let offsets = share(alloc, numbers)?;
-    Ok(try_check_utf8(offsets.as_slice(), values).err() == error(cause))
+    Ok(
+        check_utf8(offsets.as_slice(), values).err() == cause
+            && try_check_utf8(offsets.as_slice(), values).err() == error(cause),
+    )
 }
 
 // ---- keys

@@ -1,7 +1,7 @@
 use Rattle.std.proofs.Common.{◌≡◌, map, drop}
 use Rattle.std.specs.Prelude.{◌||◌}
 use Rattle.column_offset.specs.Offsets.{falls}
-use Rattle.column_offset.proofs.checks.check_offsets.Given as goal
+use Rattle.column_offset.proofs.checks.any_falls.Given as goal
 
 abbrev pub invariant-loop-offset : goal.invariant-loop-offset
 invariant-loop-offset g l =

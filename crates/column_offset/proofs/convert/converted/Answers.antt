@@ -1,7 +1,7 @@
 use Rattle.std.proofs.Common.{arith}
 use Rattle.std.proofs.lemmas.List.{length-map}
 use Rattle.column_offset.proofs.OffsetsLemmas.{place_limit, numbers_more}
-use Rattle.column_offset.proofs.convert.narrowed.Goals as goal
+use Rattle.column_offset.proofs.convert.converted.Goals as goal
 
 pub from_as_usize-requires : goal.from_as_usize-requires
 from_as_usize-requires g c =
