@@ -164,7 +164,7 @@ null_slots_are lists sound = sym (storage.nulls-flagged_slots lists.flags (piece
 within_of : (last : ℤ) (count : ℕ) → cause_if (int_lt (pos count) last) OffsetsExceedValues ≡ None → last ≤ℤ pos count
 within_of last count none = let test : int_lt (pos count) last ≡ false = cause_none _ OffsetsExceedValues none in grind (arith, ints)
 
-bounded : (last : ℤ) (count : ℕ) → last ≤ℤ pos count → cause_if (int_lt (pos count) last) OffsetsExceedValues ≡ None
+pub bounded : (last : ℤ) (count : ℕ) → last ≤ℤ pos count → cause_if (int_lt (pos count) last) OffsetsExceedValues ≡ None
 bounded last count within = let test : int_lt (pos count) last ≡ false = grind (arith, ints) in rw test refl
 
 pub sound_where_fine : (lists : OffsetLists) → AreSoundOffsets lists.offsets → array_fault lists ≡ None → AreSoundLists lists

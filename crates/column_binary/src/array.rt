@@ -3,17 +3,20 @@
 ghost use Rattle.std.specs.Prelude.{◌≡◌, ◌+◌, ◌^◌, ◌<◌, ◌≤◌, ◌≤ℤ◌, ◌==◌, not, pos, [], ◌∷◌, false, length as list_length, map, replicate, count_by, option_map, None, Some};
 ghost use Rattle.std.specs.Option.{option_copied};
 ghost use Rattle.column_base.specs.Answers.{Gives, GivesCause, Answers, ◌or_else◌};
-ghost use Rattle.column_base.specs.DataTypes.{physical_type};
 ghost use Rattle.column_base.specs.Slots.{slot_at, row_of};
 ghost use Rattle.column_storage.specs.Validity.{AreFlagsOf};
 ghost use Rattle.column_offset.specs.Offsets.{last_of, offsets_fault};
-ghost use Rattle.column_binary.specs.Types.{offset_type, is_offset_type, type_fault};
+ghost use Rattle.column_binary.specs.Types.{offset_type, type_fault};
 ghost use Rattle.column_binary.specs.Slots.{offset_lists, offset_slots, slot_count, array_fault, AreSoundLists, IsPart};
+ghost use Rattle.column_binary.specs.Rows.{used_lists};
 
-use column_base::{ArrowDataType, Cause, Offset, PhysicalType, PolarsError, Splitable};
+use crate::builder::MutableBinaryArray;
+use crate::types::{check_offset_type, offset_dtype};
+use column_base::{ArrowDataType, Cause, Offset, PolarsError, Splitable};
 use column_offset::{Offsets, OffsetsBuffer, check_offsets, check_offsets_bounds};
 use column_storage::{
-    Bitmap, Buffer, check_validity, is_valid_at, null_count, share_validity, slice_validity,
+    Bitmap, Buffer, check_validity, flags_into_mut, is_valid_at, null_count, share_validity,
+    slice_validity,
 };
 use std::alloc::Global;
 use std::marker::Model;
@@ -57,9 +60,7 @@ impl<O: Offset> BinaryArray<O> {
         ensures { let lists = offset_lists offsets values validity in Gives result (array_fault lists or_else type_fault O.IS_LARGE false dtype) (λ a. a ≡ lists) }
     {
         check_lists(&offsets, &values, validity.as_ref())?;
-        if !is_binary(dtype, O::IS_LARGE) {
-            return Err(Cause::WrongDataType.into());
-        }
+        check_offset_type(dtype, O::IS_LARGE, false)?;
         Ok(BinaryArray {
             offsets,
             values,
@@ -147,9 +148,6 @@ impl<O: Offset> BinaryArray<O> {
         requires { type_fault O.IS_LARGE false dtype ≡ None }
         ensures { Answers result None (λ a. a ≡ offset_lists (replicate (length + 1) (pos 0)) [] (Some (replicate length false))) }
     {
-        if length == usize::MAX {
-            return Err(PolarsError::NoMemory);
-        }
         Ok(BinaryArray {
             offsets: OffsetsBuffer::from_offsets(alloc, Offsets::new_zeroed(alloc, length)?)?,
             values: Buffer::new(alloc)?,
@@ -175,11 +173,7 @@ impl<O: Offset> BinaryArray<O> {
         ensures dtype { result ≡ offset_type O.IS_LARGE false }
         ensures own { type_fault O.IS_LARGE false result ≡ None }
     {
-        if O::IS_LARGE {
-            ArrowDataType::LargeBinary
-        } else {
-            ArrowDataType::Binary
-        }
+        offset_dtype(O::IS_LARGE, false)
     }
 }
 
@@ -196,7 +190,6 @@ impl<O: Offset> BinaryArray<O> {
         ensures fits { slot_count self.now + 1 < 2 ^ 64 }
     {
         self.offsets.known();
-        let _count = self.offsets.len();
     }
 
     /// The number of slots.
@@ -318,6 +311,29 @@ impl<O: Offset> BinaryArray<O> {
     }
 }
 
+// ---- a builder of the same slots
+
+impl<O: Offset> BinaryArray<O> {
+    /// The same slots, to be changed: the same offsets and flags, and the value bytes up to the last offset.
+    ///
+    /// Each list is kept where no other column shares it, and is copied otherwise. `NoMemory` where there is none for
+    /// the copies.
+    pub fn into_mut(self, alloc: Global) -> Result<MutableBinaryArray<O>, PolarsError>
+        ensures { Answers result None (λ b. b.lists ≡ used_lists self) }
+    {
+        let BinaryArray {
+            offsets,
+            values,
+            validity,
+        } = self;
+        let end = offsets.last().to_usize();
+        let values = values.sliced(0, end).make_mut(alloc)?;
+        let offsets = offsets.into_mut(alloc)?;
+        let validity = flags_into_mut(alloc, validity)?;
+        Ok(MutableBinaryArray::of(offsets, values, validity))
+    }
+}
+
 // ---- slices
 
 #[tactic(auto, using(crate::proofs::SlotsLemmas::slices), unfolding(crate::specs::Slots::sliced_lists))]
@@ -385,6 +401,13 @@ impl<O: Offset> Splitable for BinaryArray<O> {
         let back = self.try_clone(alloc)?.sliced(offset, self.len() - offset);
         Ok((front, back))
     }
+
+    fn split_at_unchecked(&self, alloc: Global, offset: usize) -> Result<(Self, Self), PolarsError>
+        requires { offset ≤ slot_count self.now }
+        ensures { Answers result None (λ parts. IsPart self.now 0 offset parts.0 × IsPart self.now offset (slot_count self.now - offset) parts.1) }
+    {
+        self.split_at(alloc, offset)
+    }
 }
 
 // ---- other flags
@@ -429,15 +452,4 @@ fn check_lists<O: Offset>(
     check_offsets_bounds(offsets.as_slice(), values.len())?;
     check_validity(validity, offsets.len_proxy())?;
     Ok(())
-}
-
-/// Whether a data type is laid out as byte strings with offsets of 32 bits, or of 64 where `is_large`.
-fn is_binary(dtype: ArrowDataType, is_large: bool) -> bool
-    ensures { result ≡ is_offset_type is_large false (physical_type dtype) }
-{
-    match dtype.to_physical_type() {
-        PhysicalType::Binary => !is_large,
-        PhysicalType::LargeBinary => is_large,
-        _ => false,
-    }
 }

@@ -2,25 +2,16 @@
 
 use column_base::{ArrowDataType, Offset, PolarsError};
 use column_binary::BinaryArray;
+use column_checks::{Flags, bitmap};
 use column_offset::OffsetsBuffer;
-use column_storage::{Bitmap, Buffer};
+use column_storage::Buffer;
 use std::alloc::Global;
-
-/// Flags of slots, where there are any.
-pub type Flags<'a> = Option<&'a [bool]>;
 
 /// The value bytes of the four slots.
 pub const BYTES: &[u8] = b"xabcdeyz";
 
 pub fn buffer<T: Copy>(alloc: Global, values: &[T]) -> Result<Buffer<T>, PolarsError> {
     Buffer::from_vec(alloc, Vec::from_slice(alloc, values)?)
-}
-
-pub fn bitmap(alloc: Global, flags: Flags<'_>) -> Result<Option<Bitmap>, PolarsError> {
-    match flags {
-        Some(flags) => Ok(Some(Bitmap::from_bools(alloc, flags)?)),
-        None => Ok(None),
-    }
 }
 
 /// The array of these lists.
@@ -61,3 +52,9 @@ pub fn four_large(alloc: Global) -> Result<BinaryArray<i64>, PolarsError> {
 pub fn first(alloc: Global) -> Result<BinaryArray<i32>, PolarsError> {
     array(alloc, &[1, 3], BYTES, Some(&[true]), ArrowDataType::Binary)
 }
+
+/// Three rows, the second of them null.
+pub const ROWS: [Option<&[u8]>; 3] = [Some(&[1, 2]), None, Some(&[3])];
+
+/// Their values, an empty one for the null.
+pub const VALUES: [&[u8]; 3] = [&[1, 2], &[], &[3]];

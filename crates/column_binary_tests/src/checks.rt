@@ -1,25 +1,16 @@
 //! What an array is seen to be: one truth value for each group of calls, and no assertion.
 
-ghost use Rattle.std.specs.Prelude.{◌≡◌, ◌+◌, ◌≤◌, []};
+ghost use Rattle.std.specs.Prelude.{◌+◌, ◌≤◌};
 ghost use Rattle.column_binary.specs.Slots.{slot_count};
 
-use crate::cases::{BYTES, Flags, array, bitmap, buffer, four, four_large};
+use crate::cases::{BYTES, array, buffer, four, four_large};
 use column_base::{ArrowDataType, Cause, Offset, PolarsError, Splitable};
 use column_binary::{BinaryArray, no_fault_is_sound};
-use column_storage::{
-    ArrayAccessor, ArrayValuesIter, Bitmap, Buffer, Listed, ListedBack, check_validity,
-};
+use column_checks::{Flags, Half, bitmap, ends_are, flags_are, gives, half_of};
+use column_storage::{ArrayAccessor, ArrayValuesIter, Bitmap, Buffer, check_validity};
 use std::alloc::Global;
 
 // ---- lists
-
-fn flags_are(bits: Option<&Bitmap>, wanted: Flags<'_>) -> bool {
-    match (bits, wanted) {
-        (None, None) => true,
-        (Some(bits), Some(wanted)) => gives(bits.iter(), wanted),
-        _ => false,
-    }
-}
 
 fn lists_are<O: Offset>(
     array: &BinaryArray<O>,
@@ -133,39 +124,6 @@ pub fn four_large_are_read(array: &BinaryArray<i64>) -> bool {
 
 // ---- iterators
 
-// any iterator that gives a list, first to last
-fn gives<T: Copy + PartialEq, I: Listed<Item = T>>(it: I, wanted: &[T]) -> bool
-    requires { I.can_next it }
-{
-    it.eq(wanted.iter().copied())
-}
-
-// any iterator that gives four items from both ends, and None from both once they are given
-fn ends_are<T: Copy + PartialEq, I: ListedBack<Item = T>>(it: I, wanted: [T; 4]) -> bool
-    requires front { (s : I) → I.can_next s }
-    requires back { (s : I) → I.can_next_back s }
-{
-    let mut it = it;
-    let [one, two, three, four] = wanted;
-    it.size_hint() == (4, Some(4))
-        && it.next() == Some(one)
-        && it.next_back() == Some(four)
-        && it.next() == Some(two)
-        && it.next_back() == Some(three)
-        && it.next().is_none()
-        && is_over(&mut it)
-}
-
-// any iterator that has nothing left, at both ends
-fn is_over<T: Drop, I: ListedBack<Item = T>>(it: &mut I) -> bool
-    requires { I.rest it.old ≡ [] }
-{
-    it.next_back().is_none()
-        && it.next().is_none()
-        && it.next().is_none()
-        && it.next_back().is_none()
-}
-
 const ROWS: [Option<&[u8]>; 4] = [Some(b"ab"), None, Some(b""), Some(b"de")];
 
 const LARGE_ROWS: [Option<&[u8]>; 4] = [Some(b"ab"), Some(b"c"), Some(b""), Some(b"de")];
@@ -229,13 +187,29 @@ pub enum Call {
 fn part<O: Offset>(array: BinaryArray<O>, call: Call, from: usize, length: usize) -> BinaryArray<O>
     requires { from + length ≤ slot_count array }
 {
-    let mut array = array;
     match call {
-        Call::Sliced => return array.sliced(from, length),
-        Call::SlicedUnchecked => return array.sliced_unchecked(from, length),
-        Call::Slice => array.slice(from, length),
-        Call::SliceUnchecked => array.slice_unchecked(from, length),
+        Call::Sliced => array.sliced(from, length),
+        Call::SlicedUnchecked => array.sliced_unchecked(from, length),
+        Call::Slice => kept(array, from, length),
+        Call::SliceUnchecked => kept_unchecked(array, from, length),
     }
+}
+
+fn kept<O: Offset>(mut array: BinaryArray<O>, from: usize, length: usize) -> BinaryArray<O>
+    requires { from + length ≤ slot_count array }
+{
+    array.slice(from, length);
+    array
+}
+
+fn kept_unchecked<O: Offset>(
+    mut array: BinaryArray<O>,
+    from: usize,
+    length: usize,
+) -> BinaryArray<O>
+    requires { from + length ≤ slot_count array }
+{
+    array.slice_unchecked(from, length);
     array
 }
 
@@ -278,34 +252,6 @@ pub fn slices_follow(alloc: Global) -> Result<bool, PolarsError> {
 pub fn none_of_none_is(alloc: Global) -> Result<bool, PolarsError> {
     let none = BinaryArray::<i32>::new_null(alloc, ArrowDataType::Binary, 0)?;
     Ok(part_is(none, Call::SliceUnchecked, (0, 0), &[0], b"", None))
-}
-
-/// A half of the slots, and by which call.
-#[derive(Clone, Copy, Debug)]
-pub enum Half {
-    Front,
-    FrontUnchecked,
-    Back,
-    BackUnchecked,
-}
-
-// a half of any list that can be cut
-fn half_of<S: Splitable + Drop>(
-    alloc: Global,
-    list: &S,
-    half: Half,
-    place: usize,
-) -> Result<S, PolarsError>
-    requires { place ≤ S.slot_count list.now }
-{
-    let (front, back) = match half {
-        Half::Front | Half::Back => list.split_at(alloc, place)?,
-        Half::FrontUnchecked | Half::BackUnchecked => list.split_at_unchecked(alloc, place)?,
-    };
-    Ok(match half {
-        Half::Front | Half::FrontUnchecked => front,
-        Half::Back | Half::BackUnchecked => back,
-    })
 }
 
 fn half_is<O: Offset>(
@@ -422,5 +368,7 @@ pub fn four_take(alloc: Global, flags: Flags<'_>, set: bool) -> Result<bool, Pol
 pub fn taken_is(array: BinaryArray<i32>, flags: Flags<'_>) -> bool {
     let mut array = array;
     let taken = array.take_validity();
-    flags_are(taken.as_ref(), flags) && lists_are(&array, &[1, 3, 4, 4, 6], BYTES, None)
+    flags_are(taken.as_ref(), flags)
+        && array.take_validity().is_none()
+        && lists_are(&array, &[1, 3, 4, 4, 6], BYTES, None)
 }

@@ -1,8 +1,8 @@
 //! The tests: each asserts what a check of `checks` says.
 
-use crate::cases::{Flags, first, four, four_large};
+use crate::cases::{first, four, four_large};
 use crate::checks::{
-    Call, Half, bounds_are, empty_is, four_are_read, four_are_shared, four_cut, four_give,
+    Call, bounds_are, empty_is, four_are_read, four_are_shared, four_cut, four_give,
     four_large_are_read, four_large_are_shared, four_large_cut, four_take, is_told, large_rows_are,
     large_values_are, no_nulls_are, none_of_none_is, nulls_are, one_row_is, one_valid_is,
     one_value_is, raw_is_told, rows_are, slices_follow, taken_is, values_are,
@@ -12,6 +12,7 @@ use column_binary::{
     flags_of_slice, same_lists_same_slots, slice_is_part, slices_are_one, slot_of_slice,
     slots_are_counted, split_is_whole,
 };
+use column_checks::{Flags, Half};
 use std::test::Fail;
 
 const ALL: Flags<'static> = Some(&[true, false, true, true]);
