@@ -1,12 +1,10 @@
 -- Laws of lists whose slots are texts.
-use Rattle.std.proofs.Common.{◌≡◌, ℕ, zero, suc, ◌+◌, ◌-◌, ◌<◌, ◌≤◌, ◌≤ℤ◌, ◌↔◌, ℤ, pos, Bool, true, false, List, [], ◌∷◌, length, take, drop, Option, Some, None, refl, sym, ◌∙◌, ap, arith}
-use Rattle.std.specs.Prelude.{int_lt, slice_range}
+use Rattle.std.proofs.Common.{◌≡◌, ℕ, zero, suc, ◌+◌, ◌-◌, ◌<◌, ◌≤◌, ◌≤ℤ◌, ◌↔◌, ℤ, pos, true, false, List, [], ◌∷◌, length, take, drop, Option, None, refl, sym, ◌∙◌, ap, arith}
+use Rattle.std.specs.Prelude.{slice_range}
 use Rattle.std.proofs.Math.Seq.{drop-nil, take-nil}
-use Rattle.std.proofs.lemmas.Int.{ints}
 use Rattle.std.proofs.lemmas.Bool.{and_parts}
 use Rattle.column_base.specs.declared.errors.Cause.{Cause}
-use Rattle.column_base.specs.declared.errors.Cause.TheVariants.{OffsetsExceedValues}
-use Rattle.column_base.specs.Answers.{cause_if, ◌or_else◌}
+use Rattle.column_base.specs.Answers.{◌or_else◌}
 use Rattle.column_base.specs.Kinds.{Slot}
 use Rattle.column_base.specs.Slots.{slot_at, values_of}
 use Rattle.column_base.specs.Utf8.{is_well_formed_utf8, IsWellFormedUtf8}
@@ -19,12 +17,12 @@ use Rattle.column_offset.specs.Text.{pieces, are_well_formed_utf8, texts_fault, 
 use Rattle.column_offset.proofs.TextLemmas.{all_where_no_fault, no_texts_fault}
 use Rattle.column_binary.specs.Slots.{OffsetLists, slot_count, offset_slots, array_fault, AreSoundLists, sliced_lists}
 use Rattle.column_binary.proofs.SlotsLemmas as binary
-use Rattle.column_binary.proofs.SlotsLemmas.{values_of-offset_slots, offset_slots-sliced, AreSoundLists-sliced, length-offset_slots}
+use Rattle.column_binary.proofs.SlotsLemmas.{bounded, values_of-offset_slots, offset_slots-sliced, AreSoundLists-sliced, length-offset_slots}
 use Rattle.column_utf8.specs.Texts.{text_array_fault, AreSoundTexts}
 
 -- ---- a text at a place
 
-text_in : (slots : List Slot) (i : ℕ) → are_well_formed_utf8 (values_of slots) ≡ true → i < length slots → IsWellFormedUtf8 (slot_at slots i).bytes
+pub text_in : (slots : List Slot) (i : ℕ) → are_well_formed_utf8 (values_of slots) ≡ true → i < length slots → IsWellFormedUtf8 (slot_at slots i).bytes
 text_in [] i all within = absurd (omega arith)
 text_in (slot ∷ slots) zero all within = (and_parts (is_well_formed_utf8 slot.bytes) (are_well_formed_utf8 (values_of slots)) all).0
 text_in (slot ∷ slots) (suc i) all within = text_in slots i (and_parts (is_well_formed_utf8 slot.bytes) (are_well_formed_utf8 (values_of slots)) all).1 (omega arith)
@@ -41,7 +39,7 @@ texts-drop zero texts all = all
 texts-drop (suc from) [] all = refl
 texts-drop (suc from) (text ∷ texts) all = texts-drop from texts (and_parts (is_well_formed_utf8 text) (are_well_formed_utf8 texts) all).1
 
-texts-take : (n : ℕ) (texts : List (List ℕ)) → are_well_formed_utf8 texts ≡ true → are_well_formed_utf8 (take n texts) ≡ true
+pub texts-take : (n : ℕ) (texts : List (List ℕ)) → are_well_formed_utf8 texts ≡ true → are_well_formed_utf8 (take n texts) ≡ true
 texts-take zero texts all = refl
 texts-take (suc n) [] all = refl
 texts-take (suc n) (text ∷ texts) all =
@@ -74,14 +72,11 @@ AreSoundTexts-flags lists other sound flagged offsets values = record {
 
 -- ---- lists without a fault
 
-within_bounds : (last : ℤ) (count : ℕ) → last ≤ℤ pos count → cause_if (int_lt (pos count) last) OffsetsExceedValues ≡ None
-within_bounds last count within = let test : int_lt (pos count) last ≡ false = grind (arith, ints) in rw test refl
-
 -- the fault of texts is that of the slots, where the offsets lie within the values
 pub cut_fault_is : (lists : OffsetLists) → AreSoundLists lists → cut_fault lists.offsets lists.values ≡ texts_fault (values_of (offset_slots lists))
 unfolding cut_fault
 cut_fault_is lists sound =
-    ap (λ (first : Option Cause). first or_else texts_fault (pieces lists.offsets lists.values)) (within_bounds (last_of lists.offsets) (length lists.values) sound.within)
+    ap (λ (first : Option Cause). first or_else texts_fault (pieces lists.offsets lists.values)) (bounded (last_of lists.offsets) (length lists.values) sound.within)
     ∙ ap texts_fault (sym (values_of-offset_slots lists sound))
 
 pub texts_where_none : (lists : OffsetLists) → AreSoundLists lists → texts_fault (values_of (offset_slots lists)) ≡ None → AreSoundTexts lists

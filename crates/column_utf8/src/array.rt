@@ -3,16 +3,17 @@
 ghost use Rattle.std.specs.Prelude.{◌≡◌, ◌+◌, ◌<◌, ◌≤◌, ◌≤ℤ◌, ◌==◌, not, pos, [], ◌∷◌, true, false, length as list_length, map, replicate, count_by, option_map, None, Some, IfSome, MatchOption};
 ghost use Rattle.std.specs.Option.{option_copied};
 ghost use Rattle.column_base.specs.Answers.{Gives, GivesCause, Answers, ◌or_else◌};
-ghost use Rattle.column_base.specs.DataTypes.{physical_type};
 ghost use Rattle.column_base.specs.Slots.{slot_at, row_of};
 ghost use Rattle.column_storage.specs.Validity.{AreFlagsOf};
 ghost use Rattle.column_offset.specs.Offsets.{last_of, offsets_fault};
 ghost use Rattle.column_binary.specs.Slots.{offset_lists, offset_slots, slot_count, IsPart};
-ghost use Rattle.column_binary.specs.Types.{offset_type, is_offset_type, type_fault};
+ghost use Rattle.column_binary.specs.Types.{offset_type, type_fault};
+ghost use Rattle.column_binary.specs.Rows.{used_lists};
 ghost use Rattle.column_utf8.specs.Texts.{text_array_fault, AreSoundTexts};
 
-use column_base::{ArrowDataType, Cause, Offset, PhysicalType, PolarsError, Splitable, str_of};
-use column_binary::BinaryArray;
+use crate::builder::MutableUtf8Array;
+use column_base::{ArrowDataType, Cause, Offset, PolarsError, Splitable, str_of};
+use column_binary::{BinaryArray, check_offset_type, offset_dtype};
 use column_offset::{OffsetsBuffer, check_offsets, check_utf8};
 use column_storage::{Bitmap, Buffer, check_validity};
 use std::alloc::Global;
@@ -59,18 +60,18 @@ impl<O: Offset> Utf8Array<O> {
         ensures { let lists = offset_lists offsets values validity in Gives result (text_array_fault lists or_else type_fault O.IS_LARGE true dtype) (λ a. a ≡ lists) }
     {
         check_texts(&offsets, &values, validity.as_ref())?;
-        if !is_text(dtype, O::IS_LARGE) {
-            return Err(Cause::WrongDataType.into());
-        }
+        check_offset_type(dtype, O::IS_LARGE, true)?;
         Ok(Utf8Array::of_lists(offsets, values, validity))
     }
 
-    /// The column of these raw lists, whose numbers are looked at too. Takes no memory.
+    /// The column of these raw lists, whose numbers are looked at too. One pass over the numbers and one over the slots,
+    /// with no memory.
     ///
     /// The first that stands of `OffsetsEmpty`, `OffsetsNegative`, `OffsetsNotMonotone`, `OffsetsExceedValues` where
     /// the last offset is greater than the number of value bytes, `InvalidUtf8` where the bytes of all slots are not
     /// UTF-8 end to end, `CharBoundary` where some slot by itself is not, and `ValidityLength` where a validity is
-    /// given whose length is not the number of slots. Null slots are looked at too.
+    /// given whose length is not the number of slots. Null slots are looked at too; bytes before the first offset and
+    /// after the last are not.
     #[tactic(auto, using(column_offset::proofs::OffsetsLemmas::sound_where_no_fault))]
     pub fn try_from_parts(
         offsets: Buffer<O>,
@@ -156,11 +157,7 @@ impl<O: Offset> Utf8Array<O> {
         ensures dtype { result ≡ offset_type O.IS_LARGE true }
         ensures own { type_fault O.IS_LARGE true result ≡ None }
     {
-        if O::IS_LARGE {
-            ArrowDataType::LargeUtf8
-        } else {
-            ArrowDataType::Utf8
-        }
+        offset_dtype(O::IS_LARGE, true)
     }
 
     // The column of lists that are texts.
@@ -313,6 +310,23 @@ impl<O: Offset> Utf8Array<O> {
     }
 }
 
+// ---- a builder of the same slots
+
+#[tactic(auto, using(crate::proofs::BuilderLemmas::builders))]
+impl<O: Offset> Utf8Array<O> {
+    /// The same slots, to be changed: the same offsets and flags, and the value bytes up to the last offset.
+    ///
+    /// Each list is kept where no other column shares it, and is copied otherwise. `NoMemory` where there is none for
+    /// the copies.
+    pub fn into_mut(self, alloc: Global) -> Result<MutableUtf8Array<O>, PolarsError>
+        ensures { Answers result None (λ b. b.lists ≡ used_lists self) }
+    {
+        let Utf8Array { array } = self;
+        let array = array.into_mut(alloc)?;
+        Ok(MutableUtf8Array::of(array))
+    }
+}
+
 // ---- slices
 
 #[tactic(auto, using(crate::proofs::TextsLemmas::slices))]
@@ -383,6 +397,14 @@ impl<O: Offset> Splitable for Utf8Array<O> {
         let back = self.try_clone(alloc)?.sliced(offset, self.len() - offset);
         Ok((front, back))
     }
+
+    fn split_at_unchecked(&self, alloc: Global, offset: usize) -> Result<(Self, Self), PolarsError>
+        requires { offset ≤ slot_count self.now }
+        ensures parts { Answers result None (λ parts. IsPart self.now 0 offset parts.0 × IsPart self.now offset (slot_count self.now - offset) parts.1) }
+        ensures texts { IfOk result (λ parts. AreSoundTexts parts.0 × AreSoundTexts parts.1) }
+    {
+        self.split_at(alloc, offset)
+    }
 }
 
 // ---- other flags
@@ -448,15 +470,4 @@ fn check_texts<O: Offset>(
     check_utf8(offsets.as_slice(), values.as_slice())?;
     check_validity(validity, offsets.len_proxy())?;
     Ok(())
-}
-
-/// Whether a data type is laid out as texts with offsets of 32 bits, or of 64 where `is_large`.
-fn is_text(dtype: ArrowDataType, is_large: bool) -> bool
-    ensures { result ≡ is_offset_type is_large true (physical_type dtype) }
-{
-    match dtype.to_physical_type() {
-        PhysicalType::Utf8 => !is_large,
-        PhysicalType::LargeUtf8 => is_large,
-        _ => false,
-    }
 }

@@ -2,16 +2,14 @@
 
 use column_base::{ArrowDataType, Cause, Offset, PolarsError};
 use column_binary::BinaryArray;
+use column_checks::{Flags, bitmap};
 use column_offset::OffsetsBuffer;
-use column_storage::{Bitmap, Buffer};
+use column_storage::Buffer;
 use column_utf8::Utf8Array;
 use std::alloc::Global;
 
-/// Flags of slots, where there are any.
-pub type Flags<'a> = Option<&'a [bool]>;
-
 /// The lists of an array, whatever the width of its offsets.
-#[derive(Clone, Copy, Debug)]
+#[derive(Clone, Copy)]
 pub struct Lists<'a> {
     pub offsets: &'a [usize],
     pub values: &'a [u8],
@@ -46,13 +44,6 @@ fn offsets<O: Offset>(alloc: Global, places: &[usize]) -> Result<Buffer<O>, Pola
 
 fn values(alloc: Global, bytes: &[u8]) -> Result<Buffer<u8>, PolarsError> {
     Buffer::from_vec(alloc, Vec::from_slice(alloc, bytes)?)
-}
-
-pub fn bitmap(alloc: Global, flags: Flags<'_>) -> Result<Option<Bitmap>, PolarsError> {
-    match flags {
-        Some(flags) => Ok(Some(Bitmap::from_bools(alloc, flags)?)),
-        None => Ok(None),
-    }
 }
 
 /// The texts of these lists, or why they are refused.

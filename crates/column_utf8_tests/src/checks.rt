@@ -3,23 +3,18 @@
 ghost use Rattle.std.specs.Prelude.{◌+◌, ◌≤◌};
 ghost use Rattle.column_binary.specs.Slots.{slot_count};
 
-use crate::cases::{FOUR, Flags, Lists, bitmap, byte_strings, four, lists_of, raw_texts, texts};
+use crate::cases::{FOUR, Lists, byte_strings, four, lists_of, raw_texts, texts};
 use column_base::{ArrowDataType, Cause, Offset, PolarsError, Splitable};
 use column_binary::BinaryArray;
+use column_checks::{Flags, Half, bitmap, ends_are, flags_are, gives, gives_back, half_of};
 use column_offset::OffsetsBuffer;
 use column_storage::{ArrayAccessor, ArrayValuesIter, Bitmap, Buffer};
-use column_utf8::{Utf8Array, no_fault_is_sound, try_into_utf8};
+use column_utf8::{
+    MutableUtf8Array, MutableUtf8ValuesArray, Utf8Array, no_fault_is_sound, try_into_utf8,
+};
 use std::alloc::Global;
 
 // ---- lists
-
-fn flags_are(bits: Option<&Bitmap>, wanted: Flags<'_>) -> bool {
-    match (bits, wanted) {
-        (None, None) => true,
-        (Some(bits), Some(wanted)) => bits.iter().eq(wanted.iter().copied()),
-        _ => false,
-    }
-}
 
 fn parts_are<O: Offset>(
     offsets: &OffsetsBuffer<O>,
@@ -92,7 +87,7 @@ pub fn raw_are_told(
     Ok(raw_is_told::<i32>(alloc, lists, cause)? && raw_is_told::<i64>(alloc, lists, cause)?)
 }
 
-pub fn dtype_is<O: Offset>(array: &Utf8Array<O>, dtype: ArrowDataType) -> bool {
+fn dtype_is<O: Offset>(array: &Utf8Array<O>, dtype: ArrowDataType) -> bool {
     array.dtype() == dtype && Utf8Array::<O>::default_dtype() == dtype
 }
 
@@ -116,30 +111,38 @@ pub fn no_nulls_are(alloc: Global) -> Result<bool, PolarsError> {
 
 // ---- taken apart, and put together again
 
-pub fn is_handed_back<O: Offset>(array: Utf8Array<O>) -> bool {
+fn is_handed_back<O: Offset>(array: Utf8Array<O>) -> bool {
     let (dtype, offsets, values, validity) = array.into_inner();
     dtype == Utf8Array::<O>::default_dtype()
         && parts_are(&offsets, &values, validity.as_ref(), FOUR)
 }
 
-pub fn is_made_again<O: Offset>(array: Utf8Array<O>) -> bool {
+fn is_made_again<O: Offset>(array: Utf8Array<O>) -> bool {
     let (dtype, offsets, values, validity) = array.into_inner();
     no_fault_is_sound();
     texts_are(&Utf8Array::new(dtype, offsets, values, validity), FOUR)
 }
 
-pub fn is_taken_again<O: Offset>(array: Utf8Array<O>) -> bool {
+fn is_taken_again<O: Offset>(array: Utf8Array<O>) -> bool {
     let (dtype, offsets, values, validity) = array.into_inner();
-    no_fault_is_sound();
     texts_are(
         &Utf8Array::new_unchecked(dtype, offsets, values, validity),
         FOUR,
     )
 }
 
-pub fn share_is<O: Offset>(alloc: Global, array: &Utf8Array<O>) -> Result<bool, PolarsError> {
+fn share_is<O: Offset>(alloc: Global, array: &Utf8Array<O>) -> Result<bool, PolarsError> {
     let shared = array.try_clone(alloc)?;
     Ok(texts_are(&shared, FOUR))
+}
+
+/// Each way to take four slots apart and to put them together again.
+pub fn four_are_put_together<O: Offset>(alloc: Global) -> Result<bool, PolarsError> {
+    Ok(
+        is_handed_back(four::<O>(alloc)?)
+            && is_made_again(four::<O>(alloc)?)
+            && is_taken_again(four::<O>(alloc)?),
+    )
 }
 
 // ---- readers by place
@@ -153,7 +156,7 @@ fn slot_is<O: Offset>(array: &Utf8Array<O>, i: usize, valid: bool, text: &str) -
         && array.get(i) == (if valid { Some(text) } else { None })
 }
 
-pub fn slots_are<O: Offset>(array: &Utf8Array<O>) -> bool {
+fn slots_are<O: Offset>(array: &Utf8Array<O>) -> bool {
     array.len() == 4
         && array.null_count() == 1
         && slot_is(array, 0, true, "é")
@@ -164,42 +167,48 @@ pub fn slots_are<O: Offset>(array: &Utf8Array<O>) -> bool {
 
 // ---- iterators
 
-pub fn rows_are(array: &Utf8Array<i32>, wanted: &[Option<&str>]) -> bool {
-    array.into_iter().eq(wanted.iter().copied())
+const ROWS: [Option<&str>; 4] = [Some("é"), None, Some(""), Some("€b")];
+
+const VALUES: [&str; 4] = ["é", "x", "", "€b"];
+
+fn rows_are(array: &Utf8Array<i32>) -> bool {
+    gives(array.into_iter(), &ROWS) && ends_are(array.iter(), ROWS)
 }
 
-pub fn large_rows_are(array: &Utf8Array<i64>, wanted: &[Option<&str>]) -> bool {
-    array.iter().eq(wanted.iter().copied())
+fn values_are(array: &Utf8Array<i32>) -> bool {
+    gives(array.values_iter(), &VALUES) && gives(array.non_null_values_iter(), &["é", "", "€b"])
 }
 
-pub fn values_are(array: &Utf8Array<i32>, every: &[&str], valid: &[&str]) -> bool {
-    array.values_iter().eq(every.iter().copied())
-        && array.non_null_values_iter().eq(valid.iter().copied())
+fn large_rows_are(array: &Utf8Array<i64>) -> bool {
+    gives(array.iter(), &ROWS) && ends_are(array.into_iter(), ROWS)
 }
 
-pub fn last_values_are(array: &Utf8Array<i64>, back: &[&str]) -> bool {
-    array.values_iter().rev().eq(back.iter().copied())
-}
-
-// the rows from both ends; once there are none, both ends can be asked again
-pub fn ends_are_rows(array: &Utf8Array<i64>) -> bool {
-    let mut rows = array.iter();
-    rows.size_hint() == (4, Some(4))
-        && rows.next() == Some(Some("é"))
-        && rows.next_back() == Some(Some("€b"))
-        && rows.next() == Some(None)
-        && rows.next_back() == Some(Some(""))
-        && rows.next().is_none()
-        && rows.next_back().is_none()
-        && rows.next().is_none()
+fn large_values_are(array: &Utf8Array<i64>) -> bool {
+    gives_back(array.values_iter(), &["€b", "", "x", "é"]) && ends_are(array.values_iter(), VALUES)
 }
 
 /// Through the bound that the iterators go by.
-pub fn places_are<'a, A: ArrayAccessor<'a, Item = &'a str>>(array: &'a A) -> bool {
+fn places_are<'a, A: ArrayAccessor<'a, Item = &'a str>>(array: &'a A) -> bool {
     ArrayAccessor::len(array) == 4
         && ArrayAccessor::value_unchecked(array, 1) == "x"
         && ArrayValuesIter::new(array).nth(3) == Some("€b")
         && ArrayValuesIter::new(array).nth_back(3) == Some("é")
+}
+
+pub fn four_are_read(array: &Utf8Array<i32>) -> bool {
+    slots_are(array)
+        && dtype_is(array, ArrowDataType::Utf8)
+        && rows_are(array)
+        && values_are(array)
+        && places_are(array)
+}
+
+pub fn four_large_are_read(array: &Utf8Array<i64>) -> bool {
+    slots_are(array)
+        && dtype_is(array, ArrowDataType::LargeUtf8)
+        && large_rows_are(array)
+        && large_values_are(array)
+        && places_are(array)
 }
 
 // ---- parts
@@ -216,13 +225,25 @@ pub enum Call {
 fn part<O: Offset>(array: Utf8Array<O>, call: Call, from: usize, length: usize) -> Utf8Array<O>
     requires { from + length ≤ slot_count array }
 {
-    let mut array = array;
     match call {
-        Call::Sliced => return array.sliced(from, length),
-        Call::SlicedUnchecked => return array.sliced_unchecked(from, length),
-        Call::Slice => array.slice(from, length),
-        Call::SliceUnchecked => array.slice_unchecked(from, length),
+        Call::Sliced => array.sliced(from, length),
+        Call::SlicedUnchecked => array.sliced_unchecked(from, length),
+        Call::Slice => kept(array, from, length),
+        Call::SliceUnchecked => kept_unchecked(array, from, length),
     }
+}
+
+fn kept<O: Offset>(mut array: Utf8Array<O>, from: usize, length: usize) -> Utf8Array<O>
+    requires { from + length ≤ slot_count array }
+{
+    array.slice(from, length);
+    array
+}
+
+fn kept_unchecked<O: Offset>(mut array: Utf8Array<O>, from: usize, length: usize) -> Utf8Array<O>
+    requires { from + length ≤ slot_count array }
+{
+    array.slice_unchecked(from, length);
     array
 }
 
@@ -237,13 +258,17 @@ fn part_is<O: Offset>(
         && texts_are(&part(array, call, from, length), wanted)
 }
 
-pub fn four_give<O: Offset>(
+/// Of four slots at both widths.
+pub fn four_give(
     alloc: Global,
     call: Call,
     range: (usize, usize),
     wanted: Lists<'_>,
 ) -> Result<bool, PolarsError> {
-    Ok(part_is(four::<O>(alloc)?, call, range, wanted))
+    Ok(
+        part_is(four::<i32>(alloc)?, call, range, wanted)
+            && part_is(four::<i64>(alloc)?, call, range, wanted),
+    )
 }
 
 fn second_part_is(array: Utf8Array<i64>) -> bool {
@@ -264,35 +289,7 @@ pub fn slices_follow(alloc: Global) -> Result<bool, PolarsError> {
     Ok(second_part_is(four::<i64>(alloc)?))
 }
 
-/// A half of the slots, and by which call.
-#[derive(Clone, Copy, Debug)]
-pub enum Half {
-    Front,
-    FrontUnchecked,
-    Back,
-    BackUnchecked,
-}
-
-// a half of any list that can be cut
-fn half_of<S: Splitable + Drop>(
-    alloc: Global,
-    list: &S,
-    half: Half,
-    place: usize,
-) -> Result<S, PolarsError>
-    requires { place ≤ S.slot_count list.now }
-{
-    let (front, back) = match half {
-        Half::Front | Half::Back => list.split_at(alloc, place)?,
-        Half::FrontUnchecked | Half::BackUnchecked => list.split_at_unchecked(alloc, place)?,
-    };
-    Ok(match half {
-        Half::Front | Half::FrontUnchecked => front,
-        Half::Back | Half::BackUnchecked => back,
-    })
-}
-
-pub fn half_is<O: Offset>(
+fn half_is<O: Offset>(
     alloc: Global,
     array: &Utf8Array<O>,
     half: Half,
@@ -304,6 +301,18 @@ pub fn half_is<O: Offset>(
     }
     let part = half_of(alloc, array, half, place)?;
     Ok(texts_are(&part, wanted))
+}
+
+/// Of four slots at both widths.
+pub fn four_cut(
+    alloc: Global,
+    (half, place): (Half, usize),
+    wanted: Lists<'_>,
+) -> Result<bool, PolarsError> {
+    Ok(
+        half_is(alloc, &four::<i32>(alloc)?, half, place, wanted)?
+            && half_is(alloc, &four::<i64>(alloc)?, half, place, wanted)?,
+    )
 }
 
 // ---- other flags
@@ -345,14 +354,38 @@ fn is_set(array: Utf8Array<i64>, bits: Option<Bitmap>, flags: Flags<'_>) -> bool
 pub fn taken_is(array: Utf8Array<i32>) -> bool {
     let mut array = array;
     let taken = array.take_validity();
-    flags_are(taken.as_ref(), FOUR.flags) && texts_are(&array, beside(None))
+    flags_are(taken.as_ref(), FOUR.flags)
+        && array.take_validity().is_none()
+        && texts_are(&array, beside(None))
+}
+
+pub fn applied_is(alloc: Global, flags: &[bool]) -> Result<bool, PolarsError> {
+    let bits = Bitmap::from_bools(alloc, flags)?;
+    Ok(is_applied(four(alloc)?, bits, flags))
+}
+
+// in place of the flags that there were
+fn is_applied(array: Utf8Array<i32>, bits: Bitmap, flags: &[bool]) -> bool {
+    let mut array = array;
+    array.known();
+    if bits.len() != array.len() {
+        return false;
+    }
+    array.apply_validity(|_| bits);
+    texts_are(&array, beside(Some(flags)))
 }
 
 // ---- byte strings and texts
 
-pub fn binary_is<O: Offset>(alloc: Global, array: &Utf8Array<O>) -> Result<bool, PolarsError> {
+fn binary_is<O: Offset>(alloc: Global, array: &Utf8Array<O>) -> Result<bool, PolarsError> {
     let shared = array.to_binary(alloc)?;
     Ok(byte_strings_are(&shared, FOUR) && byte_strings_are(array.as_binary(), FOUR))
+}
+
+/// A share of four slots, as texts and as byte strings.
+pub fn four_are_shared<O: Offset>(alloc: Global) -> Result<bool, PolarsError> {
+    let array = four::<O>(alloc)?;
+    Ok(share_is(alloc, &array)? && binary_is(alloc, &array)?)
 }
 
 pub fn into_binary_is<O: Offset>(
@@ -383,13 +416,43 @@ fn part_is_converted<O: Offset>(
         && is_converted(array.sliced(from, length), cause, wanted)
 }
 
-/// A slice of byte strings that is to become texts: refused for a cause, or taken where there is none.
-pub fn slice_is_converted<O: Offset>(
+/// A slice of byte strings that is to become texts: refused for a cause, or taken where there is none. At both widths.
+pub fn slice_is_converted(
     alloc: Global,
     lists: Lists<'_>,
     range: (usize, usize),
     cause: Option<Cause>,
     wanted: Lists<'_>,
 ) -> Result<bool, PolarsError> {
-    Ok(part_is_converted(byte_strings::<O>(alloc, lists)?, range, cause, wanted))
+    Ok(
+        part_is_converted(byte_strings::<i32>(alloc, lists)?, range, cause, wanted)
+            && part_is_converted(byte_strings::<i64>(alloc, lists)?, range, cause, wanted),
+    )
+}
+
+// ---- builders
+
+fn filled(alloc: Global) -> Result<MutableUtf8Array<i32>, PolarsError> {
+    let mut builder = MutableUtf8Array::new(alloc)?;
+    builder.extend([Some("é"), None, Some("€b"), None])?;
+    Ok(builder)
+}
+
+/// Rows that are pushed, and the last one taken.
+pub fn rows_are_built(alloc: Global) -> Result<bool, PolarsError> {
+    let mut builder = filled(alloc)?;
+    let last = builder.pop()?;
+    let wanted = lists_of(&[0, 2, 2, 6], "é€b".as_bytes(), Some(&[true, false, true]));
+    Ok(last.is_none() && texts_are(&builder.freeze()?, wanted))
+}
+
+/// Values, with an empty one for a null.
+pub fn values_are_built(alloc: Global) -> Result<bool, PolarsError> {
+    let mut builder = MutableUtf8ValuesArray::<i64>::new(alloc)?;
+    builder.push("é")?;
+    builder.push_null()?;
+    Ok(texts_are(
+        &builder.freeze()?,
+        lists_of(&[0, 2, 2], "é".as_bytes(), None),
+    ))
 }

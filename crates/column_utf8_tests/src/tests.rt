@@ -1,13 +1,14 @@
 //! The tests: each asserts what a check of `checks` says.
 
-use crate::cases::{FOUR, Flags, Lists, four, lists_of};
+use crate::cases::{FOUR, four, lists_of};
 use crate::checks::{
-    Call, Half, are_told, binary_is, dtype_is, dtype_is_refused, empty_is, ends_are_rows,
-    four_give, half_is, into_binary_is, is_handed_back, is_made_again, is_taken_again,
-    large_rows_are, last_values_are, no_nulls_are, nulls_are, places_are, raw_are_told, rows_are,
-    set_is, share_is, slice_is_converted, slices_follow, slots_are, taken_is, values_are, with_is,
+    Call, applied_is, are_told, dtype_is_refused, empty_is, four_are_put_together, four_are_read,
+    four_are_shared, four_cut, four_give, four_large_are_read, into_binary_is, no_nulls_are,
+    nulls_are, raw_are_told, rows_are_built, set_is, slice_is_converted, slices_follow, taken_is,
+    values_are_built, with_is,
 };
 use column_base::{ArrowDataType, Cause};
+use column_checks::{Flags, Half};
 use std::test::Fail;
 
 // ---- constructors
@@ -58,7 +59,7 @@ fn texts_are_told_by_their_slots(rt: HostRuntime) {
     ];
     for (offsets, values, flags, cause) in table {
         let lists = lists_of(offsets, values, flags);
-        assert!(rt; are_told(rt.alloc(), lists, true, cause), "{lists:?}");
+        assert!(rt; are_told(rt.alloc(), lists, true, cause), "{values:?}");
     }
 }
 
@@ -95,7 +96,7 @@ fn the_first_refusal_is_told(rt: HostRuntime) {
         let lists = lists_of(offsets, values, flags);
         assert!(rt;
             are_told(rt.alloc(), lists, is_own, Some(cause)),
-            "{lists:?}"
+            "{values:?}"
         );
     }
 }
@@ -189,7 +190,7 @@ fn the_first_fault_of_raw_lists_is_told(rt: HostRuntime) -> Result<(), Fail> {
     ];
     for (offsets, values, flags, cause) in table {
         let lists = lists_of(offsets, values, flags);
-        assert!(rt; raw_are_told(rt.alloc(), lists, cause)?, "{lists:?}");
+        assert!(rt; raw_are_told(rt.alloc(), lists, cause)?, "{values:?}");
     }
     Ok(())
 }
@@ -204,13 +205,15 @@ fn texts_without_bytes(rt: HostRuntime) -> Result<(), Fail> {
 
 #[test]
 fn texts_are_taken_apart_and_put_together(rt: HostRuntime) -> Result<(), Fail> {
-    assert!(rt;
-        is_handed_back(four::<i32>(rt.alloc())?) && is_handed_back(four::<i64>(rt.alloc())?)
-    );
-    assert!(rt; is_made_again(four::<i32>(rt.alloc())?) && is_made_again(four::<i64>(rt.alloc())?));
-    assert!(rt;
-        is_taken_again(four::<i32>(rt.alloc())?) && is_taken_again(four::<i64>(rt.alloc())?)
-    );
+    assert!(rt; four_are_put_together::<i32>(rt.alloc())?);
+    assert!(rt; four_are_put_together::<i64>(rt.alloc())?);
+    Ok(())
+}
+
+#[test]
+fn texts_are_shared(rt: HostRuntime) -> Result<(), Fail> {
+    assert!(rt; four_are_shared::<i32>(rt.alloc())?);
+    assert!(rt; four_are_shared::<i64>(rt.alloc())?);
     Ok(())
 }
 
@@ -218,23 +221,13 @@ fn texts_are_taken_apart_and_put_together(rt: HostRuntime) -> Result<(), Fail> {
 
 #[test]
 fn four_slots_are_read(rt: HostRuntime) -> Result<(), Fail> {
-    let array = four::<i32>(rt.alloc())?;
-    assert!(rt; slots_are(&array) && dtype_is(&array, ArrowDataType::Utf8));
-    assert!(rt; rows_are(&array, &[Some("é"), None, Some(""), Some("€b")]));
-    assert!(rt; values_are(&array, &["é", "x", "", "€b"], &["é", "", "€b"]));
-    assert!(rt; places_are(&array));
-    assert!(rt; share_is(rt.alloc(), &array)? && binary_is(rt.alloc(), &array)?);
+    assert!(rt; four_are_read(&four(rt.alloc())?));
     Ok(())
 }
 
 #[test]
 fn four_large_slots_are_read(rt: HostRuntime) -> Result<(), Fail> {
-    let array = four::<i64>(rt.alloc())?;
-    assert!(rt; slots_are(&array) && dtype_is(&array, ArrowDataType::LargeUtf8));
-    assert!(rt; large_rows_are(&array, &[Some("é"), None, Some(""), Some("€b")]));
-    assert!(rt; last_values_are(&array, &["€b", "", "x", "é"]));
-    assert!(rt; ends_are_rows(&array) && places_are(&array));
-    assert!(rt; share_is(rt.alloc(), &array)? && binary_is(rt.alloc(), &array)?);
+    assert!(rt; four_large_are_read(&four(rt.alloc())?));
     Ok(())
 }
 
@@ -251,53 +244,46 @@ fn the_slices_share_their_bytes(rt: HostRuntime) -> Result<(), Fail> {
         ((4, 0), &[8], None),
         ((1, 0), &[3], None),
     ];
-    let calls = [
-        Call::Sliced,
-        Call::SlicedUnchecked,
-        Call::Slice,
-        Call::SliceUnchecked,
-    ];
     for (range, offsets, flags) in table {
         let wanted = lists_of(offsets, FOUR.values, flags);
-        for call in calls {
+        for call in [
+            Call::Sliced,
+            Call::SlicedUnchecked,
+            Call::Slice,
+            Call::SliceUnchecked,
+        ] {
             assert!(rt;
-                four_give::<i32>(rt.alloc(), call, range, wanted)?,
-                "{range:?} {call:?}"
-            );
-            assert!(rt;
-                four_give::<i64>(rt.alloc(), call, range, wanted)?,
+                four_give(rt.alloc(), call, range, wanted)?,
                 "{range:?} {call:?}"
             );
         }
     }
+    Ok(())
+}
+
+#[test]
+fn slices_follow_one_another(rt: HostRuntime) -> Result<(), Fail> {
     assert!(rt; slices_follow(rt.alloc())?);
     Ok(())
 }
 
 #[test]
 fn texts_are_cut_in_two(rt: HostRuntime) -> Result<(), Fail> {
-    let array = four::<i32>(rt.alloc())?;
-    let front = lists_of(&[1, 3, 4], FOUR.values, Some(&[true, false]));
-    let back = lists_of(&[4, 4, 8], FOUR.values, None);
-    assert!(rt; half_is(rt.alloc(), &array, Half::Front, 2, front)?);
-    assert!(rt; half_is(rt.alloc(), &array, Half::Back, 2, back)?);
-    assert!(rt; half_is(rt.alloc(), &array, Half::FrontUnchecked, 2, front)?);
-    assert!(rt; half_is(rt.alloc(), &array, Half::BackUnchecked, 2, back)?);
-    assert!(rt; !half_is(rt.alloc(), &array, Half::Front, 5, front)?);
-    Ok(())
-}
-
-#[test]
-fn texts_are_cut_at_their_ends(rt: HostRuntime) -> Result<(), Fail> {
-    let array = four::<i64>(rt.alloc())?;
-    let (first, last) = (
-        lists_of(&[1], FOUR.values, None),
-        lists_of(&[8], FOUR.values, None),
-    );
-    assert!(rt; half_is(rt.alloc(), &array, Half::Front, 0, first)?);
-    assert!(rt; half_is(rt.alloc(), &array, Half::Back, 0, FOUR)?);
-    assert!(rt; half_is(rt.alloc(), &array, Half::FrontUnchecked, 4, FOUR)?);
-    assert!(rt; half_is(rt.alloc(), &array, Half::BackUnchecked, 4, last)?);
+    let table: [((Half, usize), &[usize], Flags<'_>); 8] = [
+        ((Half::Front, 2), &[1, 3, 4], Some(&[true, false])),
+        ((Half::Back, 2), &[4, 4, 8], None),
+        ((Half::FrontUnchecked, 2), &[1, 3, 4], Some(&[true, false])),
+        ((Half::BackUnchecked, 2), &[4, 4, 8], None),
+        ((Half::Front, 0), &[1], None),
+        ((Half::Back, 0), FOUR.offsets, FOUR.flags),
+        ((Half::FrontUnchecked, 4), FOUR.offsets, FOUR.flags),
+        ((Half::BackUnchecked, 4), &[8], None),
+    ];
+    for (half, offsets, flags) in table {
+        let wanted = lists_of(offsets, FOUR.values, flags);
+        assert!(rt; four_cut(rt.alloc(), half, wanted)?, "{half:?}");
+    }
+    assert!(rt; !four_cut(rt.alloc(), (Half::Front, 5), FOUR)?);
     Ok(())
 }
 
@@ -310,6 +296,7 @@ fn other_flags_stand_beside_the_same_bytes(rt: HostRuntime) -> Result<(), Fail> 
         assert!(rt; with_is(rt.alloc(), flags)? && set_is(rt.alloc(), flags)?);
     }
     assert!(rt; taken_is(four(rt.alloc())?));
+    assert!(rt; applied_is(rt.alloc(), &[false, true, true, false])?);
     Ok(())
 }
 
@@ -323,55 +310,82 @@ fn texts_are_byte_strings(rt: HostRuntime) -> Result<(), Fail> {
     Ok(())
 }
 
+// of a slice the range, the cause, the offsets and the flags
+type Slices<'a, const N: usize> = [((usize, usize), Option<Cause>, &'a [usize], Flags<'a>); N];
+
 #[test]
-fn byte_strings_are_texts_or_come_back(rt: HostRuntime) -> Result<(), Fail> {
-    let two: Flags<'_> = Some(&[true, false]);
-    let (invalid, boundary) = (Some(Cause::InvalidUtf8), Some(Cause::CharBoundary));
-    let null_last = lists_of(&[0, 1, 2], b"a\xFF", two);
-    let cut = lists_of(&[0, 1, 2, 3], b"\xC3\xA9a", Some(&[false, false, true]));
-    let valid = lists_of(&[1, 2, 3], b"\x80\xC3\xA9\x80", None);
-    // the lists, from, length, and of the slice the cause, the offsets and the flags
-    let table: [(
-        Lists<'_>,
-        usize,
-        usize,
-        Option<Cause>,
-        &[usize],
-        Option<&[bool]>,
-    ); 14] = [
-        (FOUR, 0, 4, None, FOUR.offsets, FOUR.flags),
-        (FOUR, 1, 2, None, &[3, 4, 4], Some(&[false, true])),
-        (FOUR, 2, 2, None, &[4, 4, 8], None),
-        (FOUR, 4, 0, None, &[8], None),
-        (null_last, 0, 2, invalid, &[0, 1, 2], Some(&[true, false])),
-        (null_last, 1, 1, invalid, &[1, 2], Some(&[false])),
-        (null_last, 0, 1, None, &[0, 1], None),
-        (
-            cut,
-            0,
-            3,
-            boundary,
-            &[0, 1, 2, 3],
-            Some(&[false, false, true]),
-        ),
-        (cut, 0, 2, boundary, &[0, 1, 2], Some(&[false, false])),
-        (cut, 0, 1, invalid, &[0, 1], Some(&[false])),
-        (cut, 1, 2, invalid, &[1, 2, 3], Some(&[false, true])),
-        (cut, 2, 1, None, &[2, 3], None),
-        (valid, 0, 2, boundary, &[1, 2, 3], None),
-        (valid, 1, 1, invalid, &[2, 3], None),
+fn byte_strings_are_texts(rt: HostRuntime) -> Result<(), Fail> {
+    let table: Slices<'_, 4> = [
+        ((0, 4), None, FOUR.offsets, FOUR.flags),
+        ((1, 2), None, &[3, 4, 4], Some(&[false, true])),
+        ((2, 2), None, &[4, 4, 8], None),
+        ((4, 0), None, &[8], None),
     ];
-    for (lists, from, length, cause, offsets, flags) in table {
-        let wanted = lists_of(offsets, lists.values, flags);
-        let range = (from, length);
+    for (range, cause, offsets, flags) in table {
+        let wanted = lists_of(offsets, FOUR.values, flags);
         assert!(rt;
-            slice_is_converted::<i32>(rt.alloc(), lists, range, cause, wanted)?,
-            "{wanted:?}"
-        );
-        assert!(rt;
-            slice_is_converted::<i64>(rt.alloc(), lists, range, cause, wanted)?,
-            "{wanted:?}"
+            slice_is_converted(rt.alloc(), FOUR, range, cause, wanted)?,
+            "{range:?}"
         );
     }
+    Ok(())
+}
+
+#[test]
+fn byte_strings_that_are_no_texts_come_back(rt: HostRuntime) -> Result<(), Fail> {
+    let invalid = Some(Cause::InvalidUtf8);
+    let lists = lists_of(&[0, 1, 2], b"a\xFF", Some(&[true, false]));
+    let table: Slices<'_, 3> = [
+        ((0, 2), invalid, &[0, 1, 2], Some(&[true, false])),
+        ((1, 1), invalid, &[1, 2], Some(&[false])),
+        ((0, 1), None, &[0, 1], None),
+    ];
+    for (range, cause, offsets, flags) in table {
+        let wanted = lists_of(offsets, lists.values, flags);
+        assert!(rt;
+            slice_is_converted(rt.alloc(), lists, range, cause, wanted)?,
+            "{range:?}"
+        );
+    }
+    Ok(())
+}
+
+#[test]
+fn byte_strings_that_are_cut_inside_a_character_come_back(rt: HostRuntime) -> Result<(), Fail> {
+    let (invalid, boundary) = (Some(Cause::InvalidUtf8), Some(Cause::CharBoundary));
+    let lists = lists_of(&[0, 1, 2, 3], b"\xC3\xA9a", Some(&[false, false, true]));
+    let table: Slices<'_, 5> = [
+        ((0, 3), boundary, lists.offsets, lists.flags),
+        ((0, 2), boundary, &[0, 1, 2], Some(&[false, false])),
+        ((0, 1), invalid, &[0, 1], Some(&[false])),
+        ((1, 2), invalid, &[1, 2, 3], Some(&[false, true])),
+        ((2, 1), None, &[2, 3], None),
+    ];
+    for (range, cause, offsets, flags) in table {
+        let wanted = lists_of(offsets, lists.values, flags);
+        assert!(rt;
+            slice_is_converted(rt.alloc(), lists, range, cause, wanted)?,
+            "{range:?}"
+        );
+    }
+    Ok(())
+}
+
+#[test]
+fn byte_strings_without_nulls_come_back(rt: HostRuntime) -> Result<(), Fail> {
+    let (invalid, boundary) = (Some(Cause::InvalidUtf8), Some(Cause::CharBoundary));
+    let lists = lists_of(&[1, 2, 3], b"\x80\xC3\xA9\x80", None);
+    assert!(rt; slice_is_converted(rt.alloc(), lists, (0, 2), boundary, lists)?);
+    let last = lists_of(&[2, 3], lists.values, None);
+    assert!(rt; slice_is_converted(rt.alloc(), lists, (1, 1), invalid, last)?);
+    Ok(())
+}
+
+// ---- builders
+
+#[test]
+fn builders_freeze_into_texts(rt: HostRuntime) -> Result<(), Fail> {
+    assert!(rt; rows_are_built(rt.alloc())?);
+    assert!(rt; values_are_built(rt.alloc())?);
     Ok(())
 }
