@@ -2,13 +2,14 @@
 use Rattle.std.proofs.Common.{◌≡◌, ℕ, ◌+◌, ◌-◌, ◌≤◌, Bool, true, false, List, [], ◌∷◌, fold, None, refl, sym, ◌∙◌, ap, subst, arith}
 use Rattle.column_base.specs.Kinds.{ColumnKind}
 use Rattle.column_relayout.specs.declared.steps.Step.{Step}
-use Rattle.column_relayout.specs.declared.steps.Step.TheVariants.{Slice, Left, Right, ToUtf8, ToBinary}
+use Rattle.column_relayout.specs.declared.steps.Step.TheVariants.{Slice, Left, Right, ToUtf8, ToBinary, Append, Rebuild}
 use Rattle.column_relayout.specs.Kinds.{is_text}
 use Rattle.column_relayout.specs.Columns.{RawLists, offset_column, column_kind, slots_of, count_of, parts_fault, AreSound, part_of, retyped}
-use Rattle.column_relayout.specs.Plans.{step_fault, kind_after, IsLight, light_step}
+use Rattle.column_relayout.specs.Plans.{step_fault, kind_after, is_light, IsLight, light_step}
 use Rattle.column_relayout.specs.Steps.{Relays}
 use Rattle.column_relayout.specs.Cuts.{span_after, as_read, cut_once}
 use Rattle.column_relayout.proofs.ColumnsLemmas.{sound_where_no_fault, count-slots, count-part, part-part, retyped-part, as_read-whole}
+use Rattle.column_relayout.proofs.PlansLemmas.{light_laid}
 use Rattle.column_relayout.proofs.StepsLemmas.{within_range}
 
 -- Read as they are, the lists are the part of the first ones at the span that the plan leaves of this one, with the kind
@@ -25,6 +26,8 @@ span_from (Left m ∷ plan) from start n = span_from plan from start m
 span_from (Right m ∷ plan) from start n = let e : from + start + m ≡ from + (start + m) = omega arith in rw e (span_from plan from (start + m) (n - m))
 span_from (ToUtf8 ∷ plan) from start n = span_from plan from start n
 span_from (ToBinary ∷ plan) from start n = span_from plan from start n
+span_from (Append rows ∷ plan) from start n = span_from plan from start n
+span_from (Rebuild next ∷ plan) from start n = span_from plan from start n
 
 -- a plan after a part is one cut of the whole
 after_part : (start middle end : RawLists) (plan : List Step) (from n : ℕ) → AreSound start → from + n ≤ count_of start → middle ≡ part_of start from n → IsCut middle (column_kind middle) (0, count_of middle) plan end → IsCut start (column_kind middle) (from, n) plan end
@@ -47,26 +50,28 @@ after_retyped : (start end : RawLists) (text : Bool) (kind : ColumnKind) (plan :
 unfolding IsCut
 after_retyped (offset_column large old lists) end text kind plan cut = cut
 
-cut_after : (start middle end : RawLists) (step : Step) (plan : List Step) → AreSound start → step_fault (column_kind start) (slots_of start) step ≡ None → middle ≡ light_step start step → IsCut middle (column_kind middle) (0, count_of middle) plan end → IsCut start (column_kind middle) (span_after (0, count_of start) step) plan end
+cut_after : (start middle end : RawLists) (step : Step) (plan : List Step) → AreSound start → is_light step ≡ true → step_fault (column_kind start) (slots_of start) step ≡ None → middle ≡ light_step start step → IsCut middle (column_kind middle) (0, count_of middle) plan end → IsCut start (column_kind middle) (span_after (0, count_of start) step) plan end
 unfolding step_fault light_step
-cut_after start middle end (Slice from n) plan sound none is cut =
+cut_after start middle end (Slice from n) plan sound light none is cut =
     let counted = count-slots start sound in
     let within = within_range _ (from + n) none in
     let e : 0 + from ≡ from = omega arith in
     rw e (after_part start middle end plan from n sound (omega arith) is cut)
-cut_after start middle end (Left n) plan sound none is cut =
+cut_after start middle end (Left n) plan sound light none is cut =
     let counted = count-slots start sound in
     let within = within_range _ n none in
     after_part start middle end plan 0 n sound (omega arith) is cut
-cut_after start middle end (Right n) plan sound none is cut =
+cut_after start middle end (Right n) plan sound light none is cut =
     let counted = count-slots start sound in
     let within = within_range _ n none in
     let e : 0 + n ≡ n = omega arith in
     rw e (after_part start middle end plan n (count_of start - n) sound (omega arith) is cut)
-cut_after start middle end ToUtf8 plan sound none is cut =
+cut_after start middle end ToUtf8 plan sound light none is cut =
     after_retyped start end true (column_kind middle) plan (subst (λ (column : RawLists). IsCut column (column_kind middle) (0, count_of column) plan end) is cut)
-cut_after start middle end ToBinary plan sound none is cut =
+cut_after start middle end ToBinary plan sound light none is cut =
     after_retyped start end false (column_kind middle) plan (subst (λ (column : RawLists). IsCut column (column_kind middle) (0, count_of column) plan end) is cut)
+cut_after start middle end (Append rows) plan sound light none is cut = absurd (cc)
+cut_after start middle end (Rebuild next) plan sound light none is cut = absurd (cc)
 
 cut_by : (start end : RawLists) (plan : List Step) → AreSound start → Relays start plan end → IsLight plan → IsCut start (column_kind start) (0, count_of start) plan end
 unfolding IsCut
@@ -78,7 +83,7 @@ cut_by start end (step ∷ plan) sound relays light =
     let middle = relays.1.0 in
     let steps = relays.1.1 in
     subst (λ (kind : ColumnKind). IsCut start kind (span_after (0, count_of start) step) plan end) steps.kind
-    (cut_after start middle end step plan sound relays.0 steps.laid (cut_by middle end plan steps.well_formed.sound relays.1.2 light.1))
+    (cut_after start middle end step plan sound light.0 relays.0 (light_laid start middle step light.0 steps.laid) (cut_by middle end plan steps.well_formed.sound relays.1.2 light.1))
 
 pub light_cut : (start end : RawLists) (plan : List Step) → parts_fault start ≡ None → Relays start plan end → IsLight plan → as_read end ≡ as_read (cut_once start plan)
 unfolding IsCut

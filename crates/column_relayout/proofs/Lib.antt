@@ -1,4 +1,5 @@
 pub mod ColumnsLemmas
+pub mod WrittenLemmas
 pub mod StepsLemmas
 pub mod PlansLemmas
 pub mod CutsLemmas

@@ -1,21 +1,40 @@
 -- How far a plan has come: the facts that a loop over its steps keeps. And what follows from the steps of a plan.
-use Rattle.std.proofs.Common.{◌≡◌, ℕ, ◌+◌, ◌<◌, ◌≤◌, List, [], ◌∷◌, ◌++◌, length, drop, get_or, Option, Some, None, refl, sym, ◌∙◌, ap, subst}
+use Rattle.std.proofs.Common.{◌≡◌, ℕ, ◌+◌, ◌<◌, ◌≤◌, Bool, true, false, List, [], ◌∷◌, ◌++◌, length, drop, get_or, Option, Some, None, MatchBool, Err, refl, sym, ◌∙◌, ap, subst}
 use Rattle.std.proofs.lemmas.List.{at_drop_all, drop_more}
 use Rattle.column_base.specs.declared.errors.Cause.{Cause}
 use Rattle.column_base.specs.Kinds.{Slot, ColumnKind}
+use Rattle.column_base.specs.Kinds as kinds
+use Rattle.column_base.specs.declared.errors.PolarsError.{PolarsError}
+use Rattle.column_base.specs.declared.errors.PolarsError.TheVariants.{ComputeError, OutOfBounds, NoMemory}
+use Rattle.column_binary.specs.Slots.{offset_slots}
+use Rattle.column_relayout.specs.declared.columns.ColumnError.{ColumnError}
+use Rattle.column_relayout.specs.declared.columns.ColumnError.TheVariants as refusals
 use Rattle.column_relayout.specs.declared.steps.Step.{Step}
-use Rattle.column_relayout.specs.Columns.{RawLists, column_kind, slots_of, parts_fault, IsWellFormed}
-use Rattle.column_relayout.specs.Plans.{step_fault, kind_after, slots_after, leads, faults, at_fault, meaning_from, plan_meaning, IsLight, light_lists}
-use Rattle.column_relayout.specs.Steps.{StepsTo, Relays}
-use Rattle.column_relayout.specs.Relayouts.{IsAnswered}
+use Rattle.column_relayout.specs.declared.steps.Step.TheVariants.{Slice, Left, Right, ToUtf8, ToBinary, Append, Rebuild}
+use Rattle.column_relayout.specs.Kinds.{is_text, offset_kind}
+use Rattle.column_relayout.specs.Columns.{RawLists, offset_column, column_kind, slots_of, parts_fault, IsWellFormed}
+use Rattle.column_relayout.specs.Plans.{step_fault, kind_after, slots_after, leads, faults, at_fault, meaning_from, plan_meaning, is_light, IsLight, ReachesHeavy, light_step, light_lists}
+use Rattle.column_relayout.specs.Written.{written_lists}
+use Rattle.column_relayout.specs.Steps.{IsWritten, IsLaid, StepsTo, Relays}
+use Rattle.column_relayout.specs.Relayouts.{IsAnswered, StepAnswers, step_error, Relayouts}
+use Rattle.column_relayout.proofs.ColumnsLemmas.{text_is}
 
 -- ---- what the steps of a plan say
+
+pub light_laid : (old new : RawLists) (step : Step) → is_light step ≡ true → IsLaid old step new → new ≡ light_step old step
+light_laid old new (Slice from n) light laid = laid
+light_laid old new (Left n) light laid = laid
+light_laid old new (Right n) light laid = laid
+light_laid old new ToUtf8 light laid = laid
+light_laid old new ToBinary light laid = laid
+light_laid old new (Append rows) light laid = absurd (cc)
+light_laid old new (Rebuild next) light laid = absurd (cc)
 
 pub light_relays : (start end : RawLists) (plan : List Step) → Relays start plan end → IsLight plan → end ≡ light_lists start plan
 light_relays start end [] relays light = relays
 light_relays start end (step ∷ plan) relays light =
     light_relays relays.1.0 end plan relays.1.2 light.1
-    ∙ ap (λ (column : RawLists). light_lists column plan) relays.1.1.laid
+    ∙ ap (λ (column : RawLists). light_lists column plan) (light_laid start relays.1.0 step light.0 relays.1.1.laid)
 
 meaning_relays : (at : ℕ) (start end : RawLists) (plan : List Step) → Relays start plan end → meaning_from at (column_kind start) (slots_of start) plan ≡ leads (column_kind end) (slots_of end)
 meaning_relays at start end [] relays = ap (λ (column : RawLists). leads (column_kind column) (slots_of column)) (sym relays)
@@ -30,30 +49,102 @@ meaning_relays at start end (step ∷ plan) relays =
 pub relays_lead : (start end : RawLists) (plan : List Step) → Relays start plan end → plan_meaning start plan ≡ leads (column_kind end) (slots_of end)
 relays_lead start end plan relays = meaning_relays 0 start end plan relays
 
+-- the steps of two plans in a row
+pub relays_split : (start end : RawLists) (plan more : List Step) → Relays start (plan ++ more) end → (middle : RawLists) × Relays start plan middle × Relays middle more end
+relays_split start end [] more relays = (start, refl, relays)
+relays_split start end (step ∷ plan) more relays =
+    let rest = relays_split relays.1.0 end plan more relays.1.2 in
+    (rest.0, (relays.0, (relays.1.0, relays.1.1, rest.1)), rest.2)
+
+relays_join : (start middle end : RawLists) (plan more : List Step) → Relays start plan middle → Relays middle more end → Relays start (plan ++ more) end
+relays_join start middle end [] more first second = subst (λ (column : RawLists). Relays column more end) first second
+relays_join start middle end (step ∷ plan) more first second =
+    (first.0, (first.1.0, first.1.1, relays_join first.1.0 middle end plan more first.1.2 second))
+
 -- the last step of a plan
 pub last_step : (start end : RawLists) (plan : List Step) (step : Step) → Relays start (plan ++ step ∷ []) end → (old : RawLists) × Relays start plan old × StepsTo old step end
-last_step start end [] step relays = (start, refl, subst (StepsTo start step) (sym relays.1.2) relays.1.1)
-last_step start end (first ∷ plan) step relays =
-    let rest = last_step relays.1.0 end plan step relays.1.2 in
-    (rest.0, (relays.0, (relays.1.0, relays.1.1, rest.1)), rest.2)
+last_step start end plan step relays =
+    let halves = relays_split start end plan (step ∷ []) relays in
+    (halves.0, halves.1, subst (StepsTo halves.0 step) (sym halves.2.1.2) halves.2.1.1)
 
 pub last_after_light : (start end : RawLists) (light : List Step) (step : Step) → Relays start (light ++ step ∷ []) end → IsLight light → StepsTo (light_lists start light) step end
 last_after_light start end light step relays all =
     let last = last_step start end light step relays in
     subst (λ (old : RawLists). StepsTo old step end) (light_relays start last.0 light last.1 all) last.2
 
+-- the light steps after a step cut what it left
+pub cut_after_step : (start end : RawLists) (plan light : List Step) (step : Step) → Relays start (plan ++ step ∷ light) end → IsLight light → (old : RawLists) × ((middle : RawLists) × Relays start plan old × StepsTo old step middle × (end ≡ light_lists middle light))
+cut_after_step start end plan light step relays all =
+    let halves = relays_split start end plan (step ∷ light) relays in
+    (halves.0, (halves.2.1.0, halves.1, halves.2.1.1, light_relays halves.2.1.0 end light halves.2.1.2 all))
+
+-- ---- what is written
+
+is_large : ColumnKind → Bool
+is_large kinds.Binary64 = true
+is_large kinds.Utf8_64 = true
+is_large kind = false
+
+large_is : (large text : Bool) → is_large (offset_kind large text) ≡ large
+unfolding is_large
+large_is false false = refl
+large_is false true = refl
+large_is true false = refl
+large_is true true = refl
+
+-- a kind tells both flags
+same_flags : (a b c d : Bool) → offset_kind a b ≡ offset_kind c d → (a ≡ c) × (b ≡ d)
+same_flags a b c d same = (
+  sym (large_is a b) ∙ ap is_large same ∙ large_is c d,
+  sym (text_is a b) ∙ ap is_text same ∙ text_is c d,
+)
+
+written_is : (new : RawLists) (large text : Bool) → column_kind new ≡ offset_kind large text → IsWritten new → new ≡ offset_column large text (written_lists (slots_of new))
+written_is (offset_column wide texts lists) large text kind written =
+    let flags = same_flags wide texts large text kind in
+    ap (offset_column wide texts) written
+    ∙ ap (λ (l : Bool). offset_column l texts (written_lists (offset_slots lists))) flags.0
+    ∙ ap (λ (t : Bool). offset_column large t (written_lists (offset_slots lists))) flags.1
+
+heavy_writes : (old new : RawLists) (step : Step) → is_light step ≡ false → IsLaid old step new → IsWritten new
+heavy_writes old new (Slice from n) heavy laid = absurd (cc)
+heavy_writes old new (Left n) heavy laid = absurd (cc)
+heavy_writes old new (Right n) heavy laid = absurd (cc)
+heavy_writes old new ToUtf8 heavy laid = absurd (cc)
+heavy_writes old new ToBinary heavy laid = absurd (cc)
+heavy_writes old new (Append rows) heavy laid = laid
+heavy_writes old new (Rebuild next) heavy laid = laid
+
+same_kind : (a b : ColumnKind) (s t : List Slot) → leads a s ≡ leads b t → a ≡ b
+same_kind a b s t same = cc
+
+same_slots : (a b : ColumnKind) (s t : List Slot) → leads a s ≡ leads b t → s ≡ t
+same_slots a b s t same = cc
+
+pub written_cut : (start end : RawLists) (plan light : List Step) (step : Step) (large text : Bool) (slots : List Slot) → Relays start (plan ++ step ∷ light) end → is_light step ≡ false → IsLight light → plan_meaning start (plan ++ step ∷ []) ≡ leads (offset_kind large text) slots → end ≡ light_lists (offset_column large text (written_lists slots)) light
+written_cut start end plan light step large text slots relays heavy all means =
+    let halves = relays_split start end plan (step ∷ light) relays in
+    let new = halves.2.1.0 in
+    let last : Relays halves.0 (step ∷ []) new = (halves.2.0, (new, halves.2.1.1, refl)) in
+    let so_far = relays_lead start new (plan ++ step ∷ []) (relays_join start halves.0 new plan (step ∷ []) halves.1 last) in
+    let same : leads (column_kind new) (slots_of new) ≡ leads (offset_kind large text) slots = sym so_far ∙ means in
+    light_relays new end light halves.2.1.2 all
+    ∙ ap (λ (column : RawLists). light_lists column light)
+    (written_is new large text (same_kind _ _ _ _ same) (heavy_writes halves.0 new step heavy halves.2.1.1.laid) ∙ ap (λ (ss : List Slot). offset_column large text (written_lists ss)) (same_slots _ _ _ _ same))
+
 -- ---- the loop over a plan
 
--- What the column `now` keeps of the plan, with i steps taken from the start: what is left means the same, and leads on
--- to what the plan leads to.
+-- What the column `now` keeps of the plan, with i steps taken from the start: what is left means the same, reaches a
+-- heavy step only where the plan does, and leads on to what the plan leads to.
 pub record Reached (start : RawLists) (plan : List Step) (i : ℕ) (now : RawLists) : Type 0 where
   pub rest : meaning_from i (column_kind now) (slots_of now) (drop i plan) ≡ plan_meaning start plan
   pub well_formed : IsWellFormed now
+  pub heavy : ReachesHeavy (column_kind now) (slots_of now) (drop i plan) → ReachesHeavy (column_kind start) (slots_of start) plan
   pub laid : (end : RawLists) → Relays now (drop i plan) end → Relays start plan end
 
 pub reached_start : (start now : RawLists) (plan : List Step) → now ≡ start → IsWellFormed start → Reached start plan 0 now
 reached_start start now plan same formed =
-    let first : Reached start plan 0 start = record { rest = refl; well_formed = formed; laid = λ end relays. relays } in
+    let first : Reached start plan 0 start = record { rest = refl; well_formed = formed; heavy = λ reaches. reaches; laid = λ end relays. relays } in
     subst (Reached start plan 0) (sym same) first
 
 -- what is left of the plan begins with step i
@@ -67,6 +158,20 @@ reached_fault start now plan i step cause reached within is fault =
     sym reached.rest
     ∙ ap (meaning_from i (column_kind now) (slots_of now)) (sym (left_of plan i step within is))
     ∙ ap (λ (f : Option Cause). at_fault f i rest) fault
+
+either : {P : Type 0} (test : Bool) → P → MatchBool test P (Unit {0})
+either true p = p
+either false p = tt
+
+neither : (P : Type 0) (test : Bool) → (test ≡ true → ⊥) → MatchBool test P (Unit {0})
+neither P true heavy = absurd (heavy refl)
+neither P false heavy = tt
+
+-- step i is heavy and has no fault
+pub reached_heavy : (start now : RawLists) (plan : List Step) (i : ℕ) (step : Step) → Reached start plan i now → i < length plan → step ≡ get_or plan i step → step_fault (column_kind now) (slots_of now) step ≡ None → (is_light step ≡ true → ⊥) → ReachesHeavy (column_kind start) (slots_of start) plan
+reached_heavy start now plan i step reached within is none heavy =
+    let here : ReachesHeavy (column_kind now) (slots_of now) (step ∷ drop (i + 1) plan) = (none, neither _ (is_light step) heavy) in
+    reached.heavy (subst (ReachesHeavy (column_kind now) (slots_of now)) (left_of plan i step within is) here)
 
 -- one step on
 pub reached_step : (start now new : RawLists) (plan : List Step) (i : ℕ) (step : Step) → Reached start plan i now → i < length plan → step ≡ get_or plan i step → step_fault (column_kind now) (slots_of now) step ≡ None → StepsTo now step new → Reached start plan (i + 1) new
@@ -83,6 +188,12 @@ reached_step start now new plan i step reached within is none steps =
           ∙ ap (meaning_from i (column_kind now) (slots_of now)) left
           ∙ reached.rest;
       well_formed = steps.well_formed;
+      heavy = λ reaches.
+          let here : ReachesHeavy next slots rest =
+          subst (λ (ss : List Slot). ReachesHeavy next ss rest) steps.slots
+          (subst (λ (k : ColumnKind). ReachesHeavy k (slots_of new) rest) steps.kind reaches) in
+          let ahead : ReachesHeavy (column_kind now) (slots_of now) (step ∷ rest) = (none, either (is_light step) here) in
+          reached.heavy (subst (ReachesHeavy (column_kind now) (slots_of now)) left ahead);
       laid = λ end relays.
           let ahead : Relays now (step ∷ rest) end = (none, (new, steps, relays)) in
           reached.laid end (subst (λ (steps' : List Step). Relays now steps' end) left ahead);
@@ -101,5 +212,24 @@ reached_end start now plan i sound reached past =
       light = light_relays start now plan relays;
       laid = relays;
     }
+
+-- a light plan reaches no heavy step
+light_reaches_none : (kind : ColumnKind) (slots : List Slot) (plan : List Step) → IsLight plan → ReachesHeavy kind slots plan → ⊥
+light_reaches_none kind slots [] light reaches = reaches
+light_reaches_none kind slots (step ∷ plan) light reaches =
+    let on = subst (λ (test : Bool). MatchBool test (ReachesHeavy (kind_after kind step) (slots_after slots step) plan) (Unit {0})) light.0 reaches.1 in
+    light_reaches_none (kind_after kind step) (slots_after slots step) plan light.1 on
+
+-- the error of step i is the plan's
+pub reached_error : (start now : RawLists) (plan : List Step) (i : ℕ) (step : Step) (error : PolarsError) → parts_fault start ≡ None → Reached start plan i now → i < length plan → step ≡ get_or plan i step → StepAnswers now step (Err error) → (is_light step ≡ true → error ≡ NoMemory → ⊥) → Relayouts start plan (Err (step_error i error))
+reached_error start now plan i step (ComputeError cause) sound reached within is told heavy = (sound, reached_fault start now plan i step cause reached within is told.0)
+reached_error start now plan i step (OutOfBounds cause) sound reached within is told heavy = (sound, reached_fault start now plan i step cause reached within is told.0)
+reached_error start now plan i step NoMemory sound reached within is told heavy = (sound, reached_heavy start now plan i step reached within is told (λ (light : is_light step ≡ true). heavy light refl))
+
+-- no light plan wants memory
+pub light_error : (start : RawLists) (plan : List Step) (error : ColumnError) → Relayouts start plan (Err error) → IsLight plan → error ≡ refusals.NoMemory → ⊥
+light_error start plan refusals.NoMemory answer light same = light_reaches_none (column_kind start) (slots_of start) plan light answer.1
+light_error start plan (refusals.Parts cause) answer light same = absurd (cc)
+light_error start plan (refusals.Step at cause) answer light same = absurd (cc)
 
 pub ruleset plan_laws = (reached_start, reached_fault)

@@ -1,20 +1,31 @@
 -- One step, over the lists of a column.
-use Rattle.std.proofs.Common.{◌≡◌, ℕ, ◌+◌, ◌-◌, ◌≤◌, Bool, true, false, nat_lt, List, length, take, drop, Some, None, refl, sym, ◌∙◌, ap, arith}
+use Rattle.std.proofs.Common.{◌≡◌, ℕ, ◌+◌, ◌-◌, ◌≤◌, Bool, true, false, not, nat_lt, List, ◌++◌, length, map, take, drop, Option, Some, None, Result, Err, refl, sym, ◌∙◌, ap, subst, arith}
+use Rattle.std.specs.Prelude.{◌&&◌}
 use Rattle.std.proofs.Math.Seq.{take-length}
 use Rattle.std.proofs.lemmas.Bool.Decides.{nat_tests}
 use Rattle.std.proofs.lemmas.List.{length-drop}
-use Rattle.column_base.specs.declared.errors.Cause.TheVariants.{StepRange, WrongKind}
+use Rattle.column_base.specs.declared.errors.Cause.TheVariants.{StepRange, WrongKind, InvalidUtf8, ViewIndex, BufferSlice}
+use Rattle.column_base.specs.declared.errors.Cause.{Cause}
+use Rattle.column_base.specs.declared.errors.PolarsError.{PolarsError}
+use Rattle.column_base.specs.Errors.{error_of}
+use Rattle.column_base.specs.Integers.{greatest_offset}
 use Rattle.column_base.specs.Kinds.{Slot, ColumnKind}
 use Rattle.column_base.specs.Lists.{sublist}
 use Rattle.column_base.specs.Slots.{values_of}
 use Rattle.column_base.proofs.AnswersLemmas.{cause_none}
-use Rattle.column_offset.specs.Text.{texts_fault}
+use Rattle.column_offset.specs.Text.{are_well_formed_utf8, texts_fault}
+use Rattle.column_binary.specs.Rows.{slot_of}
 use Rattle.column_binary.specs.Slots.{OffsetLists, offset_slots}
-use Rattle.column_relayout.specs.declared.steps.Step.TheVariants.{Slice, Left, Right, ToUtf8, ToBinary}
-use Rattle.column_relayout.specs.Kinds.{is_text, is_binary, offset_kind}
+use Rattle.column_relayout.specs.declared.steps.Step.TheVariants.{Slice, Left, Right, ToUtf8, ToBinary, Append, Rebuild}
+use Rattle.column_relayout.specs.declared.steps.Step.{Step}
+use Rattle.column_relayout.specs.declared.kind.Kind.{Kind}
+use Rattle.column_relayout.specs.Kinds.{kind_of, is_text, is_binary, offset_kind, greatest_of}
 use Rattle.column_relayout.specs.Columns.{RawLists, offset_column, column_kind, slots_of, count_of, part_of, IsWellFormed}
 use Rattle.column_relayout.specs.Plans.{range_fault, step_fault, slots_after, light_step}
+use Rattle.column_relayout.specs.Relayouts.{StepAnswers}
 use Rattle.column_relayout.specs.Steps.{StepsTo}
+use Rattle.column_relayout.specs.Written.{written_slots, given_rows, room_fault, written_lists}
+use Rattle.column_relayout.proofs.WrittenLemmas.{written_mean}
 use Rattle.column_relayout.proofs.ColumnsLemmas.{text_is, binary_is, to_text_kind, to_binary_kind, kind-part}
 
 -- ---- parts of the slots
@@ -109,5 +120,70 @@ to_binary_steps large lists new same formed = record {
 }
 
 pub ruleset kind_laws = (not_bytes, not_texts)
+
+-- ---- slots that are written anew
+
+greatest_is : (large text : Bool) → greatest_of (offset_kind large text) ≡ Some (greatest_offset large)
+greatest_is false false = refl
+greatest_is false true = refl
+greatest_is true false = refl
+greatest_is true true = refl
+
+pub append_fault : (large : Bool) (slots : List Slot) (rows : List (Option (List ℕ))) (greatest : ℕ) → greatest_offset large ≡ greatest → step_fault (offset_kind large false) slots (Append rows) ≡ room_fault (Some greatest) (slots ++ map slot_of rows)
+unfolding step_fault
+append_fault large slots rows greatest is = rw (text_is large false, greatest_is large false, is) refl
+
+pub append_texts_fault : (large : Bool) (slots : List Slot) (rows : List (Option (List ℕ))) (greatest : ℕ) → greatest_offset large ≡ greatest → are_well_formed_utf8 (given_rows rows) ≡ true → step_fault (offset_kind large true) slots (Append rows) ≡ room_fault (Some greatest) (slots ++ map slot_of rows)
+unfolding step_fault
+append_texts_fault large slots rows greatest is texts = rw (text_is large true, texts, greatest_is large true, is) refl
+
+pub append_no_texts : (large : Bool) (slots : List Slot) (rows : List (Option (List ℕ))) → are_well_formed_utf8 (given_rows rows) ≡ false → step_fault (offset_kind large true) slots (Append rows) ≡ Some InvalidUtf8
+unfolding step_fault
+append_no_texts large slots rows texts = rw (text_is large true, texts) refl
+
+pub append_steps : (large text : Bool) (old new : OffsetLists) (rows : List (Option (List ℕ))) → new ≡ written_lists (offset_slots old ++ map slot_of rows) → IsWellFormed (offset_column large text new) → StepsTo (offset_column large text old) (Append rows) (offset_column large text new)
+unfolding slots_after
+append_steps large text old new rows is formed =
+    let slots : offset_slots new ≡ offset_slots old ++ map slot_of rows = ap offset_slots is ∙ written_mean (offset_slots old ++ map slot_of rows) in
+    record {
+      well_formed = formed;
+      kind = refl;
+      slots = slots;
+      laid = is ∙ ap written_lists (sym slots);
+    }
+
+pub rebuild_fault : (large text wide texts : Bool) (slots : List Slot) (next : Kind) (greatest : ℕ) → kind_of next ≡ offset_kind wide texts → greatest_offset wide ≡ greatest → (texts && not text) ≡ false → step_fault (offset_kind large text) slots (Rebuild next) ≡ room_fault (Some greatest) (written_slots slots)
+unfolding step_fault
+rebuild_fault large text wide texts slots next greatest kind is may = rw (kind, text_is wide texts, text_is large text, may, greatest_is wide texts, is) refl
+
+pub wrong_rebuild : (kind : ColumnKind) (slots : List Slot) (next : Kind) → is_text kind ≡ false → is_text (kind_of next) ≡ true → step_fault kind slots (Rebuild next) ≡ Some WrongKind
+unfolding step_fault
+wrong_rebuild kind slots next bytes texts = rw (texts, bytes) refl
+
+pub rebuild_steps : (large text wide texts : Bool) (old new : OffsetLists) (next : Kind) → kind_of next ≡ offset_kind wide texts → new ≡ written_lists (written_slots (offset_slots old)) → IsWellFormed (offset_column wide texts new) → StepsTo (offset_column large text old) (Rebuild next) (offset_column wide texts new)
+unfolding slots_after
+rebuild_steps large text wide texts old new next kind is formed =
+    let slots : offset_slots new ≡ written_slots (offset_slots old) = ap offset_slots is ∙ written_mean (written_slots (offset_slots old)) in
+    record {
+      well_formed = formed;
+      kind = sym kind;
+      slots = slots;
+      laid = is ∙ ap written_lists (sym slots);
+    }
+
+pub ruleset rebuild_faults = (text_is, wrong_rebuild)
+
+-- ---- answers
+
+-- a cause as an error is the step's answer
+pub cause_answers : (old : RawLists) (step : Step) (cause : Cause) → step_fault (column_kind old) (slots_of old) step ≡ Some cause → StepAnswers old step (Err (error_of cause))
+cause_answers old step ViewIndex fault = (fault, refl)
+cause_answers old step BufferSlice fault = (fault, refl)
+cause_answers old step cause fault = (fault, refl)
+
+pub error_answers : (old : RawLists) (step : Step) (cause : Cause) (error : PolarsError) → error ≡ error_of cause → step_fault (column_kind old) (slots_of old) step ≡ Some cause → StepAnswers old step (Err error)
+error_answers old step cause error is fault = subst (λ (e : PolarsError). StepAnswers old step (Err e)) (sym is) (cause_answers old step cause fault)
+
+pub ruleset answer_laws = (error_answers, cause_answers)
 
 pub ruleset conversions = (to_utf8_fault, to_binary_fault, to_utf8_steps, to_binary_steps)

@@ -1,5 +1,6 @@
 -- Kinds, and their words.
-use Rattle.std.specs.Prelude.{ℕ, Bool, true, false, List, codes}
+use Rattle.std.specs.Prelude.{ℕ, Bool, true, false, List, codes, Option, Some, None}
+use Rattle.column_base.specs.Integers.{greatest_offset}
 use Rattle.column_base.specs.Kinds.{ColumnKind}
 use Rattle.column_base.specs.Kinds as kinds
 use Rattle.column_relayout.specs.declared.kind.Kind.{Kind}
@@ -58,3 +59,11 @@ offset_kind false false = kinds.Binary32
 offset_kind false true = kinds.Utf8_32
 offset_kind true false = kinds.Binary64
 offset_kind true true = kinds.Utf8_64
+
+-- Arrow columnar format, "Variable-size Binary Layout": the greatest offset of a kind, where it has offsets
+abbrev pub greatest_of : ColumnKind → Option ℕ
+greatest_of kinds.Binary32 = Some (greatest_offset false)
+greatest_of kinds.Utf8_32 = Some (greatest_offset false)
+greatest_of kinds.Binary64 = Some (greatest_offset true)
+greatest_of kinds.Utf8_64 = Some (greatest_offset true)
+greatest_of kind = None

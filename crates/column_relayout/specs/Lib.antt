@@ -1,5 +1,6 @@
 pub mod Kinds
 pub mod Columns
+pub mod Written
 pub mod Plans
 pub mod Steps
 pub mod Cuts

@@ -1,16 +1,18 @@
 -- What a plan means for lists of slots, where it faults, and what steps that move no byte leave of the lists.
-use Rattle.std.specs.Prelude.{◌≡◌, ℕ, ◌+◌, ◌-◌, Bool, true, false, not, nat_lt, List, [], ◌∷◌, length, take, drop, fold, MatchBool, Option, Some, None}
+use Rattle.std.specs.Prelude.{◌≡◌, ℕ, ◌+◌, ◌-◌, ◌&&◌, Bool, true, false, not, nat_lt, List, [], ◌∷◌, ◌++◌, length, take, drop, map, fold, MatchBool, Option, Some, None}
 use Rattle.column_base.specs.declared.errors.Cause.{Cause}
-use Rattle.column_base.specs.declared.errors.Cause.TheVariants.{StepRange, WrongKind}
+use Rattle.column_base.specs.declared.errors.Cause.TheVariants.{StepRange, WrongKind, InvalidUtf8}
 use Rattle.column_base.specs.Answers.{cause_if, ◌or_else◌}
 use Rattle.column_base.specs.Kinds.{Slot, ColumnKind}
 use Rattle.column_base.specs.Lists.{sublist}
 use Rattle.column_base.specs.Slots.{values_of}
-use Rattle.column_offset.specs.Text.{texts_fault}
+use Rattle.column_offset.specs.Text.{are_well_formed_utf8, texts_fault}
+use Rattle.column_binary.specs.Rows.{slot_of}
 use Rattle.column_relayout.specs.declared.steps.Step.{Step}
-use Rattle.column_relayout.specs.declared.steps.Step.TheVariants.{Slice, Left, Right, ToUtf8, ToBinary}
-use Rattle.column_relayout.specs.Kinds.{is_text, is_binary, text_kind, binary_kind}
+use Rattle.column_relayout.specs.declared.steps.Step.TheVariants.{Slice, Left, Right, ToUtf8, ToBinary, Append, Rebuild}
+use Rattle.column_relayout.specs.Kinds.{kind_of, is_text, is_binary, text_kind, binary_kind, greatest_of}
 use Rattle.column_relayout.specs.Columns.{RawLists, column_kind, slots_of, count_of, part_of, retyped}
+use Rattle.column_relayout.specs.Written.{written_slots, given_rows, room_fault}
 
 -- ---- one step
 
@@ -25,11 +27,18 @@ step_fault kind slots (Left n) = range_fault (length slots) n
 step_fault kind slots (Right n) = range_fault (length slots) n
 step_fault kind slots ToUtf8 = cause_if (not (is_binary kind)) WrongKind or_else texts_fault (values_of slots)
 step_fault kind slots ToBinary = cause_if (not (is_text kind)) WrongKind
+step_fault kind slots (Append rows) =
+    cause_if (is_text kind && not (are_well_formed_utf8 (given_rows rows))) InvalidUtf8
+    or_else room_fault (greatest_of kind) (slots ++ map slot_of rows)
+step_fault kind slots (Rebuild next) =
+    cause_if (is_text (kind_of next) && not (is_text kind)) WrongKind
+    or_else room_fault (greatest_of (kind_of next)) (written_slots slots)
 
 -- the kind that a step gives
 abbrev pub kind_after : ColumnKind → Step → ColumnKind
 kind_after kind ToUtf8 = text_kind kind
 kind_after kind ToBinary = binary_kind kind
+kind_after kind (Rebuild next) = kind_of next
 kind_after kind step = kind
 
 -- the slots that a step gives
@@ -37,6 +46,8 @@ unfoldable pub slots_after : List Slot → Step → List Slot
 slots_after slots (Slice from n) = sublist slots from n
 slots_after slots (Left n) = take n slots
 slots_after slots (Right n) = drop n slots
+slots_after slots (Append rows) = slots ++ map slot_of rows
+slots_after slots (Rebuild next) = written_slots slots
 slots_after slots step = slots
 
 -- ---- the plan
@@ -67,6 +78,8 @@ is_light (Left n) = true
 is_light (Right n) = true
 is_light ToUtf8 = true
 is_light ToBinary = true
+is_light (Append rows) = false
+is_light (Rebuild next) = false
 
 abbrev pub IsLight : List Step → Type 0
 IsLight [] = Unit {0}
@@ -77,13 +90,15 @@ abbrev pub ReachesHeavy : ColumnKind → List Slot → List Step → Type 0
 ReachesHeavy kind slots [] = ⊥
 ReachesHeavy kind slots (step ∷ plan) = (step_fault kind slots step ≡ None) × MatchBool (is_light step) (ReachesHeavy (kind_after kind step) (slots_after slots step) plan) (Unit {0})
 
--- what a light step leaves of the lists
+-- what a light step leaves of the lists; a heavy one is not meant here
 unfoldable pub light_step : RawLists → Step → RawLists
 light_step column (Slice from n) = part_of column from n
 light_step column (Left n) = part_of column 0 n
 light_step column (Right n) = part_of column n (count_of column - n)
 light_step column ToUtf8 = retyped true column
 light_step column ToBinary = retyped false column
+light_step column (Append rows) = column
+light_step column (Rebuild next) = column
 
 -- what a light plan leaves of the lists: each step what it leaves of those before it
 abbrev pub light_lists : RawLists → List Step → RawLists

@@ -1,7 +1,9 @@
 -- Which answers steps and plans give.
-use Rattle.std.specs.Prelude.{◌≡◌, List, Some, None, Result, Ok, Err}
+use Rattle.std.specs.Prelude.{◌≡◌, ℕ, List, Some, None, Result, Ok, Err}
 use Rattle.column_base.specs.declared.errors.Cause.{Cause}
-use Rattle.column_base.specs.Answers.{GivesCause}
+use Rattle.column_base.specs.declared.errors.PolarsError.{PolarsError}
+use Rattle.column_base.specs.declared.errors.PolarsError.TheVariants as errors
+use Rattle.column_base.specs.Answers.{GivesCause, AnswersFirst}
 use Rattle.column_relayout.specs.declared.columns.AnyArray.{AnyArray}
 use Rattle.column_relayout.specs.declared.steps.Step.{Step}
 use Rattle.column_relayout.specs.declared.columns.ColumnError.{ColumnError}
@@ -17,6 +19,19 @@ GivesStep lists old step answer = GivesCause answer (step_fault (column_kind old
 
 abbrev pub StepGives : RawLists → Step → Result AnyArray Cause → Type 0
 StepGives = GivesStep lists_of
+
+-- the same of a step that may take memory, which wants only where the step has no fault
+abbrev pub AnswersStep : {X : Type 0} → (X → RawLists) → RawLists → Step → Result X PolarsError → Type 0
+AnswersStep lists old step answer = AnswersFirst answer (step_fault (column_kind old) (slots_of old) step) (λ column. StepsTo old step (lists column))
+
+abbrev pub StepAnswers : RawLists → Step → Result AnyArray PolarsError → Type 0
+StepAnswers = AnswersStep lists_of
+
+-- the error of a plan whose step `at` has this one
+abbrev pub step_error : ℕ → PolarsError → ColumnError
+step_error at (errors.ComputeError cause) = refusals.Step at cause
+step_error at (errors.OutOfBounds cause) = refusals.Step at cause
+step_error at errors.NoMemory = refusals.NoMemory
 
 -- The plan of these parts leads to this column, step by step. A light plan's column has the lists of the parts, cut.
 pub record IsAnswered (parts : RawLists) (plan : List Step) (column : RawLists) : Type 0 where

@@ -1,11 +1,20 @@
 -- What one step makes of a column, and what the steps of a plan make of it, one after the other.
 use Rattle.std.specs.Prelude.{◌≡◌, List, [], ◌∷◌, None}
 use Rattle.column_relayout.specs.declared.steps.Step.{Step}
-use Rattle.column_relayout.specs.Columns.{RawLists, column_kind, slots_of, IsWellFormed}
+use Rattle.column_relayout.specs.declared.steps.Step.TheVariants.{Append, Rebuild}
+use Rattle.column_binary.specs.Slots.{offset_slots}
+use Rattle.column_relayout.specs.Columns.{RawLists, offset_column, column_kind, slots_of, IsWellFormed}
+use Rattle.column_relayout.specs.Written.{written_lists}
 use Rattle.column_relayout.specs.Plans.{step_fault, kind_after, slots_after, light_step}
+
+-- The lists are those of their own slots, written anew.
+abbrev pub IsWritten : RawLists → Type 0
+IsWritten (offset_column large text lists) = lists ≡ written_lists (offset_slots lists)
 
 -- what a step promises of the lists
 abbrev pub IsLaid : RawLists → Step → RawLists → Type 0
+IsLaid old (Append rows) new = IsWritten new
+IsLaid old (Rebuild next) new = IsWritten new
 IsLaid old step new = new ≡ light_step old step
 
 -- The new column is well formed, its kind and slots are what the step gives, and its lists what the step promises.

@@ -1,10 +1,14 @@
 //! Laws of raw columns and of plans.
 
-ghost use Rattle.std.specs.Prelude.{◌≡◌, ◌↔◌, None, List, [], ◌∷◌, ◌++◌};
+ghost use Rattle.std.specs.Prelude.{◌≡◌, ◌↔◌, Bool, false, None, List, [], ◌∷◌, ◌++◌};
+ghost use Rattle.column_base.specs.Kinds.{Slot};
+ghost use Rattle.column_binary.specs.Slots.{offset_slots};
 ghost use Rattle.column_relayout.specs.declared.steps.Step.{Step};
-ghost use Rattle.column_relayout.specs.Columns.{RawLists, column_kind, slots_of, parts_fault, IsWithinType, IsWellFormed};
-ghost use Rattle.column_relayout.specs.Plans.{leads, plan_meaning, IsLight, light_lists};
+ghost use Rattle.column_relayout.specs.Kinds.{offset_kind};
+ghost use Rattle.column_relayout.specs.Columns.{RawLists, offset_column, column_kind, slots_of, parts_fault, IsWithinType, IsWellFormed};
+ghost use Rattle.column_relayout.specs.Plans.{leads, plan_meaning, is_light, IsLight, light_lists};
 ghost use Rattle.column_relayout.specs.Steps.{StepsTo, Relays};
+ghost use Rattle.column_relayout.specs.Written.{written_lists};
 ghost use Rattle.column_relayout.specs.Cuts.{cut_once, as_read};
 
 /// Law of well-formedness: over lists within their type no fault is found exactly where they are well formed.
@@ -48,4 +52,27 @@ pub fn last_step_is_taken()
 pub fn last_step_after_light_ones()
     ensures { (parts column : RawLists) (light : List Step) (step : Step) → Relays parts (light ++ step ∷ []) column → IsLight light
         → StepsTo (light_lists parts light) step column }
+{}
+
+/// The light steps after a step cut what it left.
+#[tactic(auto, using(crate::proofs::PlansLemmas::cut_after_step))]
+pub fn light_steps_cut_what_a_step_left()
+    ensures { (parts column : RawLists) (plan light : List Step) (step : Step) → Relays parts (plan ++ step ∷ light) column → IsLight light
+        → (old : RawLists) × ((middle : RawLists) × Relays parts plan old × StepsTo old step middle × (column ≡ light_lists middle light)) }
+{}
+
+/// Where the last heavy step leads to a kind with offsets, its slots were written anew, and the light steps after it cut
+/// those lists. Without such steps the column is what was written.
+#[tactic(auto, using(crate::proofs::PlansLemmas::written_cut))]
+pub fn light_steps_cut_what_was_written()
+    ensures { (parts column : RawLists) (plan light : List Step) (step : Step) (large text : Bool) (slots : List Slot)
+        → Relays parts (plan ++ step ∷ light) column → is_light step ≡ false → IsLight light
+        → plan_meaning parts (plan ++ step ∷ []) ≡ leads (offset_kind large text) slots
+        → column ≡ light_lists (offset_column large text (written_lists slots)) light }
+{}
+
+/// What slots are written to means these slots.
+#[tactic(auto, using(crate::proofs::WrittenLemmas::written_mean))]
+pub fn written_slots_are_same()
+    ensures { (slots : List Slot) → offset_slots (written_lists slots) ≡ slots }
 {}

@@ -1,6 +1,7 @@
 //! Raw parts into columns, and plans of steps over them: a cheap change of layout never changes a row.
 #![tactic(auto)]
 
+mod append;
 mod arrays;
 mod assembly;
 mod columns;
@@ -9,8 +10,12 @@ mod cut;
 mod kind;
 mod laws;
 mod plan;
+mod rebuild;
+mod rows;
 mod steps;
+mod written;
 
+pub use append::step_append;
 pub use assembly::assemble;
 pub use columns::{AnyArray, ColumnError, RawColumn};
 pub use conversion::{step_to_binary, step_to_utf8};
@@ -18,7 +23,10 @@ pub use cut::{step_left, step_right, step_slice};
 pub use kind::Kind;
 pub use laws::{
     last_step_after_light_ones, last_step_is_taken, light_plans_cut, light_plans_cut_once,
-    no_fault_is_well_formed, relays_lead,
+    light_steps_cut_what_a_step_left, light_steps_cut_what_was_written, no_fault_is_well_formed,
+    relays_lead, written_slots_are_same,
 };
 pub use plan::relayout;
+pub use rebuild::step_rebuild;
+pub use rows::Rows;
 pub use steps::Step;

@@ -1,22 +1,25 @@
 //! Taking the steps of a plan.
 
-ghost use Rattle.std.specs.Prelude.{◌≢◌};
-ghost use Rattle.column_relayout.specs.Plans.{IsLight};
+ghost use Rattle.std.specs.Prelude.{◌≡◌, ◌≢◌, true};
+ghost use Rattle.column_relayout.specs.Plans.{is_light, IsLight};
 ghost use Rattle.column_relayout.specs.Arrays.{lists_of, lists_of_parts};
-ghost use Rattle.column_relayout.specs.Relayouts.{StepGives, Relayouts};
+ghost use Rattle.column_relayout.specs.Relayouts.{StepAnswers, step_error, Relayouts};
 
+use crate::append::step_append;
 use crate::assembly::assemble;
 use crate::columns::{AnyArray, ColumnError, RawColumn};
 use crate::conversion::{step_to_binary, step_to_utf8};
 use crate::cut::{step_left, step_right, step_slice};
+use crate::rebuild::step_rebuild;
 use crate::steps::Step;
-use column_base::Cause;
+use column_base::PolarsError;
 use std::alloc::Global;
 
 /// The column that the plan's steps make of the parts, one after the other. The parts are consumed on every answer.
 ///
 /// `Parts` with the parts' first fault, or else `Step` with the number, counted from 0, of the first step that is
 /// refused, and its cause. A plan of light steps takes no memory, and its column shares the parts' value bytes.
+/// `NoMemory` comes only where a heavy step is reached, and no step up to and with it is refused.
 #[tactic(auto, using(crate::proofs::PlansLemmas::plan_laws))]
 pub fn relayout(alloc: Global, parts: RawColumn, plan: &[Step]) -> Result<AnyArray, ColumnError>
     ensures answer { Relayouts (lists_of_parts parts) plan.now result }
@@ -27,22 +30,38 @@ pub fn relayout(alloc: Global, parts: RawColumn, plan: &[Step]) -> Result<AnyArr
         Err(cause) => return Err(ColumnError::Parts(cause)),
     };
     for (i, step) in plan.iter().enumerate() {
-        column = match apply(column, step) {
+        column = match apply(alloc, column, step) {
             Ok(next) => next,
-            Err(cause) => return Err(ColumnError::Step(i, cause)),
+            Err(error) => return Err(step_error(i, error)),
         };
     }
     Ok(column)
 }
 
-fn apply(column: AnyArray, step: &Step) -> Result<AnyArray, Cause>
-    ensures { StepGives (lists_of column) step.now result }
+/// The error of a plan whose step `at` has this one.
+fn step_error(at: usize, error: PolarsError) -> ColumnError
+    ensures { result ≡ step_error at error }
 {
-    match *step {
-        Step::Slice(offset, length) => step_slice(column, offset, length),
-        Step::Left(count) => step_left(column, count),
-        Step::Right(count) => step_right(column, count),
-        Step::ToUtf8 => step_to_utf8(column),
-        Step::ToBinary => step_to_binary(column),
+    match error {
+        PolarsError::ComputeError(cause) | PolarsError::OutOfBounds(cause) => {
+            ColumnError::Step(at, cause)
+        }
+        PolarsError::NoMemory => ColumnError::NoMemory,
+    }
+}
+
+#[tactic(auto, using(crate::proofs::StepsLemmas::answer_laws))]
+fn apply(alloc: Global, column: AnyArray, step: &Step) -> Result<AnyArray, PolarsError>
+    ensures step { StepAnswers (lists_of column) step.now result }
+    ensures light { is_light step.now ≡ true → result ≢ Err PolarsError.NoMemory }
+{
+    match step {
+        Step::Slice(offset, length) => Ok(step_slice(column, *offset, *length)?),
+        Step::Left(count) => Ok(step_left(column, *count)?),
+        Step::Right(count) => Ok(step_right(column, *count)?),
+        Step::ToUtf8 => Ok(step_to_utf8(column)?),
+        Step::ToBinary => Ok(step_to_binary(column)?),
+        Step::Append(rows) => step_append(alloc, column, rows),
+        Step::Rebuild(kind) => step_rebuild(alloc, column, *kind),
     }
 }

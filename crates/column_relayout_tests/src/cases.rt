@@ -1,12 +1,10 @@
 //! Lists and parts for the tests.
 
 use column_base::PolarsError;
+use column_checks::{Flags, bitmap};
 use column_relayout::{Kind, RawColumn};
-use column_storage::{Bitmap, Buffer};
+use column_storage::Buffer;
 use std::alloc::Global;
-
-/// Flags of slots, where there are any.
-pub type Flags<'a> = Option<&'a [bool]>;
 
 /// The lists of a column of each kind. Offsets of 64 bits are these numbers too.
 #[derive(Clone, Copy)]
@@ -100,13 +98,6 @@ pub fn kind_by(large: bool, text: bool) -> Kind {
         if text { Kind::Utf8_64 } else { Kind::Binary64 }
     } else {
         if text { Kind::Utf8_32 } else { Kind::Binary32 }
-    }
-}
-
-fn bitmap(alloc: Global, flags: Flags<'_>) -> Result<Option<Bitmap>, PolarsError> {
-    match flags {
-        Some(flags) => Ok(Some(Bitmap::from_bools(alloc, flags)?)),
-        None => Ok(None),
     }
 }
 

@@ -1,8 +1,9 @@
 //! What columns, steps and plans are seen to give: one bool for each, and no assertion.
 
-use crate::cases::{Flags, Lists, Span, kind_by, part_of, parts, span_of, three, wide_parts};
+use crate::cases::{Lists, Span, kind_by, part_of, parts, span_of, three, wide_parts};
 use column_base::{Cause, PolarsError};
-use column_relayout::Step::{Left, Right, Slice, ToBinary, ToUtf8};
+use column_checks::{Flags, flags_are};
+use column_relayout::Step::{Append, Left, Rebuild, Right, Slice, ToBinary, ToUtf8};
 use column_relayout::{
     AnyArray, ColumnError, Kind, Step, assemble, relayout, step_left, step_right, step_slice,
     step_to_binary, step_to_utf8,
@@ -18,14 +19,6 @@ pub fn words_are() -> bool {
 }
 
 // ---- lists
-
-fn flags_are(bits: Option<&Bitmap>, wanted: Flags<'_>) -> bool {
-    match (bits, wanted) {
-        (None, None) => true,
-        (Some(bits), Some(wanted)) => bits.iter().eq(wanted.iter().copied()),
-        _ => false,
-    }
-}
 
 fn wide_are(offsets: &[i64], wanted: &[i32]) -> bool {
     offsets
@@ -71,7 +64,7 @@ fn validity_of(column: &AnyArray) -> Option<&Bitmap> {
 }
 
 /// Whether the column has this kind and these lists.
-fn column_is(column: &AnyArray, kind: Kind, wanted: &Lists<'_>) -> bool {
+pub fn column_is(column: &AnyArray, kind: Kind, wanted: &Lists<'_>) -> bool {
     kind_of(column) == kind
         && offsets_are(column, wanted.offsets)
         && values_of(column) == wanted.values
@@ -266,18 +259,20 @@ pub fn both_refuse(
 
 /// Whether the cut leaves the span, in each kind.
 pub fn all_cut(alloc: Global, own: Lists<'_>, step: Step, left: Span) -> Result<bool, PolarsError> {
+    let plan = [step];
     Ok(
-        both_lead(alloc, own, &[step], (false, false), left)?
-            && both_lead(alloc, own, &[step], (true, true), left)?,
+        both_lead(alloc, own, &plan, (false, false), left)?
+            && both_lead(alloc, own, &plan, (true, true), left)?,
     )
 }
 
 /// Whether the cut reaches past the end, in each kind.
 pub fn all_pass(alloc: Global, own: Lists<'_>, step: Step) -> Result<bool, PolarsError> {
+    let plan = [step];
     let refused = (0, Cause::StepRange);
     Ok(
-        both_refuse(alloc, own, false, &[step], refused)?
-            && both_refuse(alloc, own, true, &[step], refused)?,
+        both_refuse(alloc, own, false, &plan, refused)?
+            && both_refuse(alloc, own, true, &plan, refused)?,
     )
 }
 
@@ -292,6 +287,7 @@ pub fn first_steps(plan: &[Step], count: usize) -> &[Step] {
 
 // ---- steps, by their calls
 
+// A light step; no heavy one is taken here.
 fn by_its_call(column: AnyArray, step: Step) -> Result<AnyArray, Cause> {
     match step {
         Slice(offset, length) => step_slice(column, offset, length),
@@ -299,6 +295,7 @@ fn by_its_call(column: AnyArray, step: Step) -> Result<AnyArray, Cause> {
         Right(count) => step_right(column, count),
         ToUtf8 => step_to_utf8(column),
         ToBinary => step_to_binary(column),
+        Append(_) | Rebuild(_) => Err(Cause::StepRange),
     }
 }
 

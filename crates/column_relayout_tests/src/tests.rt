@@ -1,33 +1,35 @@
 //! The tests: each asserts what a check of `checks` says.
 
-use crate::cases::{
-    Flags, Lists, Span, cut_character, eight, framed, lists_of, span_of, three, without,
+use crate::anew::{
+    no_texts_are_rebuilt, only_texts_follow, plan_writes, rows_are, rows_follow, slots_are_rebuilt,
 };
+use crate::cases::{Lists, Span, cut_character, eight, framed, lists_of, span_of, three, without};
 use crate::checks::{
     all_are_told, all_convert, all_cut, all_pass, both_lead, both_refuse, calls_are, first_steps,
     wide_is_told, words_are,
 };
 use column_base::Cause;
+use column_checks::Flags;
 use column_relayout::Step::{Left, Right, Slice, ToBinary, ToUtf8};
 use column_relayout::{
-    Step, last_step_after_light_ones, last_step_is_taken, light_plans_cut, light_plans_cut_once,
-    no_fault_is_well_formed, relays_lead,
+    Kind, Step, last_step_after_light_ones, last_step_is_taken, light_plans_cut,
+    light_plans_cut_once, light_steps_cut_what_a_step_left, light_steps_cut_what_was_written,
+    no_fault_is_well_formed, relays_lead, written_slots_are_same,
 };
 use std::test::Fail;
 
 #[test]
 fn kinds_have_words(rt: HostRuntime) {
     assert!(rt; words_are());
-}
-
-#[test]
-fn laws_are_called(_rt: HostRuntime) {
     no_fault_is_well_formed();
     relays_lead();
     light_plans_cut();
     light_plans_cut_once();
     last_step_is_taken();
     last_step_after_light_ones();
+    light_steps_cut_what_a_step_left();
+    light_steps_cut_what_was_written();
+    written_slots_are_same();
 }
 
 #[test]
@@ -207,7 +209,7 @@ fn cuts_are_the_slots_they_name(rt: HostRuntime) -> Result<(), Fail> {
         (Right(3), span_of(3, 0, false)),
     ];
     for (step, left) in table {
-        assert!(rt; all_cut(rt.alloc(), three(), step, left)?, "{step:?}");
+        assert!(rt; all_cut(rt.alloc(), three(), step, left)?, "{}", left.from);
     }
     Ok(())
 }
@@ -229,7 +231,7 @@ fn flags_that_are_all_set_are_dropped(rt: HostRuntime) -> Result<(), Fail> {
         (without, Right(0), span_of(0, 0, false)),
     ];
     for (own, step, left) in table {
-        assert!(rt; all_cut(rt.alloc(), own, step, left)?, "{step:?}");
+        assert!(rt; all_cut(rt.alloc(), own, step, left)?, "{}", left.from);
     }
     Ok(())
 }
@@ -253,7 +255,7 @@ fn cuts_past_the_end_are_refused(rt: HostRuntime) -> Result<(), Fail> {
         Right(4),
         Right(far),
     ] {
-        assert!(rt; all_pass(rt.alloc(), three(), step)?, "{step:?}");
+        assert!(rt; all_pass(rt.alloc(), three(), step)?);
     }
     for step in [
         Slice(0, 1),
@@ -263,7 +265,7 @@ fn cuts_past_the_end_are_refused(rt: HostRuntime) -> Result<(), Fail> {
         Right(1),
         Right(far),
     ] {
-        assert!(rt; all_pass(rt.alloc(), without(), step)?, "{step:?}");
+        assert!(rt; all_pass(rt.alloc(), without(), step)?);
     }
     Ok(())
 }
@@ -320,7 +322,7 @@ fn plans_tell_the_first_refused_step(rt: HostRuntime) -> Result<(), Fail> {
     for (own, plan, at, cause) in table {
         assert!(rt;
             both_refuse(rt.alloc(), own, false, plan, (at, cause))?,
-            "{plan:?}"
+            "{at}"
         );
     }
     Ok(())
@@ -364,7 +366,8 @@ fn plans_lead_to_columns(rt: HostRuntime) -> Result<(), Fail> {
     for (own, plan, text, left) in table {
         assert!(rt;
             both_lead(rt.alloc(), own, plan, (false, text), left)?,
-            "{plan:?}"
+            "{}",
+            left.from
         );
     }
     Ok(())
@@ -413,13 +416,55 @@ fn ten_light_steps_move_no_byte(rt: HostRuntime) -> Result<(), Fail> {
         let plan = first_steps(&of_bytes, count);
         assert!(rt;
             both_lead(rt.alloc(), eight(), plan, (false, is_other), left)?,
-            "{plan:?}"
+            "{count}"
         );
         let plan = first_steps(&of_texts, count);
         assert!(rt;
             both_lead(rt.alloc(), eight(), plan, (true, !is_other), left)?,
-            "{plan:?}"
+            "{count}"
         );
     }
+    Ok(())
+}
+
+// ---- steps that write anew
+
+#[test]
+fn rows_are_appended(rt: HostRuntime) -> Result<(), Fail> {
+    assert!(rt; rows_are(rt.alloc())?);
+    for large in [false, true] {
+        assert!(rt;
+            rows_follow(rt.alloc(), large, false)? && rows_follow(rt.alloc(), large, true)?
+        );
+        assert!(rt; only_texts_follow(rt.alloc(), large)?);
+    }
+    Ok(())
+}
+
+#[test]
+fn columns_are_rebuilt(rt: HostRuntime) -> Result<(), Fail> {
+    for large in [false, true] {
+        for (next, text) in [
+            (Kind::Binary32, false),
+            (Kind::Binary64, false),
+            (Kind::Binary32, true),
+            (Kind::Binary64, true),
+            (Kind::Utf8_32, true),
+            (Kind::Utf8_64, true),
+        ] {
+            assert!(rt;
+                slots_are_rebuilt(rt.alloc(), large, text, next)?,
+                "{next:?} {text}"
+            );
+        }
+        assert!(rt; no_texts_are_rebuilt(rt.alloc(), large, Kind::Utf8_32)?);
+        assert!(rt; no_texts_are_rebuilt(rt.alloc(), large, Kind::Utf8_64)?);
+    }
+    Ok(())
+}
+
+#[test]
+fn plans_write_anew(rt: HostRuntime) -> Result<(), Fail> {
+    assert!(rt; plan_writes(rt.alloc(), false)? && plan_writes(rt.alloc(), true)?);
     Ok(())
 }

@@ -1,0 +1,110 @@
+//! What the steps that write a column anew are seen to give: one bool for each, and no assertion.
+
+use crate::cases::{kind_by, lists_of, parts, three};
+use crate::checks::column_is;
+use column_base::{Cause, PolarsError};
+use column_relayout::Step::{Append, Rebuild, Right};
+use column_relayout::{AnyArray, Kind, Rows, assemble, relayout, step_append, step_rebuild};
+use std::alloc::Global;
+
+// ---- rows
+
+// a row, and one that is missing
+fn two_rows(alloc: Global, row: &[u8]) -> Result<Rows, PolarsError> {
+    let mut rows = Rows::new(alloc);
+    rows.push(Some(row))?;
+    rows.push(None)?;
+    Ok(rows)
+}
+
+pub fn rows_are(alloc: Global) -> Result<bool, PolarsError> {
+    let rows = two_rows(alloc, b"de")?;
+    Ok(
+        rows.len() == 2
+            && !rows.is_empty()
+            && rows.get(0) == Some(b"de".as_slice())
+            && rows.get(1).is_none(),
+    )
+}
+
+// ---- append
+
+fn is_appended(alloc: Global, column: AnyArray, kind: Kind) -> Result<bool, PolarsError> {
+    let rows = two_rows(alloc, b"de")?;
+    let wanted = lists_of(
+        &[0, 2, 2, 3, 5, 5],
+        b"abcde",
+        Some(&[true, false, true, true, false]),
+    );
+    Ok(column_is(&step_append(alloc, column, &rows)?, kind, &wanted))
+}
+
+/// Three slots of the kind, and after them two rows.
+pub fn rows_follow(alloc: Global, large: bool, text: bool) -> Result<bool, PolarsError> {
+    match assemble(parts(alloc, large, text, three())?) {
+        Ok(column) => is_appended(alloc, column, kind_by(large, text)),
+        Err(_) => Ok(false),
+    }
+}
+
+fn no_text_follows(alloc: Global, column: AnyArray) -> Result<bool, PolarsError> {
+    let rows = two_rows(alloc, b"\xff")?;
+    Ok(step_append(alloc, column, &rows).err() == Some(Cause::InvalidUtf8.into()))
+}
+
+/// Texts take no row that is none.
+pub fn only_texts_follow(alloc: Global, large: bool) -> Result<bool, PolarsError> {
+    match assemble(parts(alloc, large, true, three())?) {
+        Ok(column) => no_text_follows(alloc, column),
+        Err(_) => Ok(false),
+    }
+}
+
+// ---- rebuild
+
+/// Three slots, of which the null one has a byte and loses it.
+pub fn slots_are_rebuilt(
+    alloc: Global,
+    large: bool,
+    text: bool,
+    next: Kind,
+) -> Result<bool, PolarsError> {
+    let flags: Option<&[bool]> = Some(&[true, false, true]);
+    let own = lists_of(&[1, 3, 4, 5], b"xabcdy", flags);
+    match assemble(parts(alloc, large, text, own)?) {
+        Ok(column) => Ok(column_is(
+            &step_rebuild(alloc, column, next)?,
+            next,
+            &lists_of(&[0, 2, 2, 3], b"abd", flags),
+        )),
+        Err(_) => Ok(false),
+    }
+}
+
+/// Byte strings are not rebuilt as texts.
+pub fn no_texts_are_rebuilt(alloc: Global, large: bool, next: Kind) -> Result<bool, PolarsError> {
+    match assemble(parts(alloc, large, false, three())?) {
+        Ok(column) => {
+            Ok(step_rebuild(alloc, column, next).err() == Some(Cause::WrongKind.into()))
+        }
+        Err(_) => Ok(false),
+    }
+}
+
+// ---- in a plan
+
+/// A light step cuts what was written.
+pub fn plan_writes(alloc: Global, large: bool) -> Result<bool, PolarsError> {
+    let plan = [
+        Append(two_rows(alloc, b"de")?),
+        Rebuild(Kind::Binary64),
+        Right(3),
+    ];
+    match relayout(alloc, parts(alloc, large, true, three())?, &plan) {
+        Ok(column) => {
+            let wanted = lists_of(&[3, 5, 5], b"abcde", Some(&[true, false]));
+            Ok(column_is(&column, Kind::Binary64, &wanted))
+        }
+        Err(_) => Ok(false),
+    }
+}
