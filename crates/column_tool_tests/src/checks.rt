@@ -1,6 +1,11 @@
 //! What a run is seen to answer and to write: one truth value for each run, and no assertion.
 
-use column_tool::{MemorySink, MemorySource, Sink, Source, SteadySource, run};
+use column_base::Cause;
+use column_relayout::{ColumnError, RawColumn, assemble};
+use column_storage::Buffer;
+use column_tool::{
+    MemorySink, MemorySource, Sink, Source, SteadySource, refusal_text, run, text_of,
+};
 use std::alloc::Global;
 use std::test::Fail;
 
@@ -120,4 +125,27 @@ fn is_untouched<S: Source>(alloc: Global, words: &[&str], source: &mut S) -> Res
             && sink.bytes().is_empty()
             && source.read(&mut [0; 4]).is_err(),
     )
+}
+
+// ---- the text of a column, and of a refusal
+
+pub fn column_text_is(alloc: Global) -> Result<bool, Fail> {
+    let parts = RawColumn::Offset32 {
+        text: false,
+        offsets: Buffer::from_vec(alloc, vec![in alloc; 0i32, 2]?)?,
+        values: Buffer::from_vec(alloc, vec![in alloc; 7u8, 255]?)?,
+        validity: None,
+    };
+    match assemble(parts) {
+        Ok(column) => Ok(
+            text_of(alloc, &column)?.as_slice()
+                == b"ok binary32 1\n+07ff\noffsets=0,2\nvalues=07ff\n".as_slice(),
+        ),
+        Err(_) => Ok(false),
+    }
+}
+
+pub fn refusal_text_is(alloc: Global) -> Result<bool, Fail> {
+    let refusal = ColumnError::Step(2, Cause::StepRange);
+    Ok(refusal_text(alloc, &refusal)?.as_slice() == b"refused step 2 StepRange\n".as_slice())
 }

@@ -1,13 +1,20 @@
 //! The tests: each asserts what a check of `checks` says.
 
 use crate::checks::{
-    FIRST, FIRST_TEXT, answers, blanks_answer, ends_full, fails_at_read, fails_at_write, is_nested,
-    words_read_nothing,
+    FIRST, FIRST_TEXT, answers, blanks_answer, column_text_is, ends_full, fails_at_read,
+    fails_at_write, is_nested, refusal_text_is, words_read_nothing,
 };
 use std::test::Fail;
 
 // documents, each with what is printed for it
 type Rows<'a, const N: usize> = [(&'a [u8], &'a [u8]); N];
+
+#[test]
+fn texts_are_made(rt: HostRuntime) -> Result<(), Fail> {
+    assert!(rt; column_text_is(rt.alloc())?);
+    assert!(rt; refusal_text_is(rt.alloc())?);
+    Ok(())
+}
 
 #[test]
 fn columns_are_printed(rt: HostRuntime) -> Result<(), Fail> {
