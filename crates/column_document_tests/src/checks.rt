@@ -149,8 +149,7 @@ pub fn short_document_is_read(alloc: Global, kind: &str, texts: bool) -> Result<
         "offsets":[-2147483648,0,2147483647],"values":"61C3a9Ff"}}"#
     )?;
     Ok(match parsed(alloc, document.as_bytes()) {
-        Ok((parts, plan)) => are_steps(&plan, &[Step::Right(1)])
-            && short_parts_are(&parts, texts),
+        Ok((parts, plan)) => are_steps(&plan, &[Step::Right(1)]) && short_parts_are(&parts, texts),
         Err(_) => false,
     })
 }
