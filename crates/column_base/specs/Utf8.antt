@@ -35,3 +35,8 @@ is_well_formed_utf8 = is_well_formed_after (Some [])
 
 abbrev pub IsWellFormedUtf8 : List ℕ → Type 0
 IsWellFormedUtf8 bytes = is_well_formed_utf8 bytes ≡ true
+
+-- each byte string is UTF-8 by itself
+abbrev pub are_well_formed_utf8 : List (List ℕ) → Bool
+are_well_formed_utf8 [] = true
+are_well_formed_utf8 (bytes ∷ texts) = is_well_formed_utf8 bytes && are_well_formed_utf8 texts

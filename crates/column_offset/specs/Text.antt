@@ -1,10 +1,11 @@
 -- The bytes of slots, and text that is cut into slots.
-use Rattle.std.specs.Prelude.{ℕ, ℤ, Bool, true, not, ◌&&◌, List, [], ◌∷◌, length, slice_range, Option}
+use Rattle.std.specs.Prelude.{ℕ, ℤ, not, List, [], ◌∷◌, length, slice_range, Option}
 use Rattle.std.specs.List.{concat}
 use Rattle.column_base.specs.declared.errors.Cause.{Cause}
 use Rattle.column_base.specs.declared.errors.Cause.TheVariants.{InvalidUtf8, CharBoundary}
 use Rattle.column_base.specs.Answers.{cause_if, ◌or_else◌}
 use Rattle.column_base.specs.Utf8.{is_well_formed_utf8}
+pub use Rattle.column_base.specs.Utf8.{are_well_formed_utf8}
 use Rattle.column_offset.specs.Offsets.{nat_of, bounds_fault}
 
 -- Arrow columnar format, "Variable-size Binary Layout": the bytes from each offset up to the next.
@@ -12,11 +13,6 @@ abbrev pub pieces : List ℤ → List ℕ → List (List ℕ)
 pieces [] values = []
 pieces (start ∷ []) values = []
 pieces (start ∷ end ∷ offsets) values = slice_range values (nat_of start) (nat_of end) ∷ pieces (end ∷ offsets) values
-
--- each byte string is UTF-8 by itself
-abbrev pub are_well_formed_utf8 : List (List ℕ) → Bool
-are_well_formed_utf8 [] = true
-are_well_formed_utf8 (bytes ∷ texts) = is_well_formed_utf8 bytes && are_well_formed_utf8 texts
 
 -- Why byte strings are no texts: end to end they are not UTF-8, or else some one by itself is not.
 unfoldable pub texts_fault : List (List ℕ) → Option Cause
