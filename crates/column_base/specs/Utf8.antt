@@ -40,3 +40,7 @@ IsWellFormedUtf8 bytes = is_well_formed_utf8 bytes ≡ true
 abbrev pub are_well_formed_utf8 : List (List ℕ) → Bool
 are_well_formed_utf8 [] = true
 are_well_formed_utf8 (bytes ∷ texts) = is_well_formed_utf8 bytes && are_well_formed_utf8 texts
+
+-- Arrow columnar format, "Data Types": what a slot may hold. A text is UTF-8, a byte string is any bytes.
+abbrev pub CanHold : Bool → List ℕ → Type 0
+CanHold is_text bytes = is_text ≡ true → IsWellFormedUtf8 bytes

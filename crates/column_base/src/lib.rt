@@ -10,6 +10,7 @@ mod offset;
 mod push;
 mod splitable;
 mod utf8;
+mod view_kind;
 
 pub use datatypes::{ArrowDataType, IntervalUnit, PhysicalType, PrimitiveType, TimeUnit};
 pub use errors::{Cause, PolarsError};
@@ -22,3 +23,4 @@ pub use push::{
 };
 pub use splitable::Splitable;
 pub use utf8::{is_utf8, str_of, utf8_cut, utf8_is_text};
+pub use view_kind::{BinaryKind, Utf8Kind, ViewKind, ViewOwned, ViewType};
