@@ -6,5 +6,6 @@ pub mod Answers
 pub mod DataTypes
 pub mod Integers
 pub mod Native
+pub mod NativeLaws
 pub mod Utf8
 pub mod Pushes

@@ -4,6 +4,7 @@
 
 mod datatypes;
 mod errors;
+mod intervals;
 mod lists;
 mod native;
 mod offset;
@@ -14,6 +15,7 @@ mod view_kind;
 
 pub use datatypes::{ArrowDataType, IntervalUnit, PhysicalType, PrimitiveType, TimeUnit};
 pub use errors::{Cause, PolarsError};
+pub use intervals::{days_ms, months_days_ns};
 pub use lists::{slice_reads, slices_are_one, split_is_whole};
 pub use native::NativeType;
 pub use offset::Offset;

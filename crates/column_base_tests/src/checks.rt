@@ -1,8 +1,12 @@
 //! What single values are seen to be: one truth value for each group of calls, and no assertion.
 
+ghost use Rattle.column_base.specs.Utf8.{CanHold};
+
 use column_base::{
-    ArrowDataType, Cause, NativeType, Offset, PhysicalType, PolarsError, is_utf8, str_of,
+    ArrowDataType, BinaryKind, Cause, NativeType, Offset, PhysicalType, PolarsError, PrimitiveType,
+    Utf8Kind, ViewKind, ViewOwned, ViewType, days_ms, is_utf8, months_days_ns, str_of,
 };
+use std::alloc::Global;
 
 // ---- causes and errors
 
@@ -23,14 +27,37 @@ pub fn lies_in(dtype: ArrowDataType, physical: PhysicalType) -> bool {
 
 // ---- numbers, through their bounds
 
-// a number has these bytes and is read back from them
-pub fn bytes_are<T: NativeType>(number: T, bytes: [u8; 16]) -> bool {
+// a number has these bytes, then zeros, and is read back from them
+pub fn bytes_are<T: NativeType>(number: T, wanted: &[u8]) -> bool {
+    let mut bytes = [0; 16];
+    if wanted.len() > 16 {
+        return false;
+    }
+    bytes[..wanted.len()].copy_from_slice(wanted);
     number.known();
-    number.to_le16() == bytes && T::from_le16(bytes) == number
+    T::SIZE == wanted.len() && number.to_le16() == bytes && T::from_le16(bytes) == number
 }
 
-pub fn zero_is<T: NativeType>(zero: T, size: usize) -> bool {
-    T::zero() == zero && T::SIZE == size
+// a type's least number, its zero and its greatest number
+pub fn ends_are<T: NativeType>(
+    primitive: PrimitiveType,
+    least: (T, &[u8]),
+    zero: (T, &[u8]),
+    greatest: (T, &[u8]),
+) -> bool {
+    T::PRIMITIVE == primitive
+        && T::zero() == zero.0
+        && bytes_are(least.0, least.1)
+        && bytes_are(zero.0, zero.1)
+        && bytes_are(greatest.0, greatest.1)
+}
+
+pub fn days_are(interval: days_ms, days: i32, milliseconds: i32) -> bool {
+    interval.days() == days && interval.milliseconds() == milliseconds
+}
+
+pub fn months_are(interval: months_days_ns, months: i32, days: i32, ns: i64) -> bool {
+    interval.months() == months && interval.days() == days && interval.ns() == ns
 }
 
 // the greatest offset is one, what is past it is none, and so is its sum with 1
@@ -65,4 +92,32 @@ fn is_read(bytes: &[u8]) -> bool {
 // both parts of a cut are UTF-8
 pub fn cut_is(bytes: &[u8], place: usize, wanted: bool) -> bool {
     place <= bytes.len() && (is_utf8(&bytes[..place]) && is_utf8(&bytes[place..])) == wanted
+}
+
+// ---- kinds of views, through their bounds
+
+pub fn kind_is<K: ViewKind>(is_utf8: bool, dtype: ArrowDataType) -> bool {
+    K::IS_UTF8 == is_utf8 && K::DATA_TYPE == dtype
+}
+
+// bytes are a value of the kind, whose bytes they are, or none
+pub fn kind_takes<'a, K: ViewType<'a>>(bytes: &'a [u8], wanted: bool) -> bool {
+    match K::from_bytes(bytes) {
+        Some(item) => wanted && K::to_bytes(item) == bytes && is_taken::<K>(bytes),
+        None => !wanted,
+    }
+}
+
+fn is_taken<'a, K: ViewType<'a>>(bytes: &'a [u8]) -> bool
+    requires { CanHold K.IS_UTF8 bytes.now }
+{
+    K::to_bytes(K::from_bytes_unchecked(bytes)) == bytes && K::dtype() == K::DATA_TYPE
+}
+
+pub fn bytes_are_copied(alloc: Global, bytes: &[u8]) -> Result<bool, PolarsError> {
+    Ok(BinaryKind::into_owned(alloc, bytes)?.as_slice() == bytes)
+}
+
+pub fn text_is_copied(alloc: Global, text: &str) -> Result<bool, PolarsError> {
+    Ok(Utf8Kind::into_owned(alloc, text)?.as_str() == text)
 }

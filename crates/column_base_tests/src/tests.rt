@@ -1,11 +1,16 @@
 //! The tests: each asserts what a check of `checks` says.
 
-use crate::checks::{bytes_are, cause_is, cut_is, ends_at, lies_in, place_is, text_is, zero_is};
+use crate::checks::{
+    bytes_are, bytes_are_copied, cause_is, cut_is, days_are, ends_are, ends_at, kind_is,
+    kind_takes, lies_in, months_are, place_is, text_is, text_is_copied,
+};
 use column_base::{
-    ArrowDataType, Cause, IntervalUnit, NativeType, Offset, PhysicalType, PolarsError,
-    PrimitiveType, TimeUnit, slice_reads, slices_are_one, split_is_whole, utf8_cut, utf8_is_text,
+    ArrowDataType, BinaryKind, Cause, IntervalUnit, Offset, PhysicalType, PolarsError,
+    PrimitiveType, TimeUnit, Utf8Kind, days_ms, months_days_ns, slice_reads, slices_are_one,
+    split_is_whole, utf8_cut, utf8_is_text,
 };
 use std::alloc::AllocError;
+use std::test::Fail;
 
 #[test]
 fn causes_have_names_and_errors(rt: HostRuntime) {
@@ -81,15 +86,138 @@ fn data_types_have_layouts(rt: HostRuntime) {
 }
 
 #[test]
-fn numbers_have_bytes(rt: HostRuntime) {
-    let two_below = [0xfe, 0xff, 0xff, 0xff, 0, 0, 0, 0, 0, 0, 0, 0, 0, 0, 0, 0];
-    let greatest = [
-        255, 255, 255, 255, 255, 255, 255, 0x7f, 0, 0, 0, 0, 0, 0, 0, 0,
-    ];
-    assert!(rt; bytes_are(-2i32, two_below));
-    assert!(rt; bytes_are(i64::MAX, greatest));
-    assert!(rt; zero_is(0i32, 4) && zero_is(0i64, 8));
-    assert!(rt; i32::PRIMITIVE == PrimitiveType::Int32 && i64::PRIMITIVE == PrimitiveType::Int64);
+fn signed_numbers_have_bytes(rt: HostRuntime) {
+    assert!(rt;
+        ends_are(
+            PrimitiveType::Int8,
+            (-128i8, b"\x80"),
+            (0, b"\0"),
+            (127, b"\x7f")
+        )
+    );
+    assert!(rt;
+        ends_are(
+            PrimitiveType::Int16,
+            (-32768i16, b"\0\x80"),
+            (0, b"\0\0"),
+            (32767, b"\xff\x7f")
+        )
+    );
+    assert!(rt;
+        ends_are(
+            PrimitiveType::Int32,
+            (-2147483648i32, b"\0\0\0\x80"),
+            (0, b"\0\0\0\0"),
+            (2147483647, b"\xff\xff\xff\x7f")
+        )
+    );
+    assert!(rt;
+        ends_are(
+            PrimitiveType::Int64,
+            (-9223372036854775808i64, b"\0\0\0\0\0\0\0\x80"),
+            (0, b"\0\0\0\0\0\0\0\0"),
+            (9223372036854775807, b"\xff\xff\xff\xff\xff\xff\xff\x7f")
+        )
+    );
+    assert!(rt;
+        ends_are(
+            PrimitiveType::Int128,
+            (
+                -170141183460469231731687303715884105728i128,
+                b"\0\0\0\0\0\0\0\0\0\0\0\0\0\0\0\x80"
+            ),
+            (0, b"\0\0\0\0\0\0\0\0\0\0\0\0\0\0\0\0"),
+            (
+                170141183460469231731687303715884105727,
+                b"\xff\xff\xff\xff\xff\xff\xff\xff\xff\xff\xff\xff\xff\xff\xff\x7f"
+            )
+        )
+    );
+}
+
+#[test]
+fn minus_one_has_bytes(rt: HostRuntime) {
+    assert!(rt; bytes_are(-1i8, b"\xff"));
+    assert!(rt; bytes_are(-1i16, b"\xff\xff"));
+    assert!(rt; bytes_are(-1i32, b"\xff\xff\xff\xff"));
+    assert!(rt; bytes_are(-1i64, b"\xff\xff\xff\xff\xff\xff\xff\xff"));
+    assert!(rt;
+        bytes_are(
+            -1i128,
+            b"\xff\xff\xff\xff\xff\xff\xff\xff\xff\xff\xff\xff\xff\xff\xff\xff"
+        )
+    );
+}
+
+#[test]
+fn unsigned_numbers_have_bytes(rt: HostRuntime) {
+    assert!(rt;
+        ends_are(
+            PrimitiveType::UInt8,
+            (1u8, b"\x01"),
+            (0, b"\0"),
+            (255, b"\xff")
+        )
+    );
+    assert!(rt;
+        ends_are(
+            PrimitiveType::UInt16,
+            (1u16, b"\x01\0"),
+            (0, b"\0\0"),
+            (65535, b"\xff\xff")
+        )
+    );
+    assert!(rt;
+        ends_are(
+            PrimitiveType::UInt32,
+            (1u32, b"\x01\0\0\0"),
+            (0, b"\0\0\0\0"),
+            (4294967295, b"\xff\xff\xff\xff")
+        )
+    );
+    assert!(rt;
+        ends_are(
+            PrimitiveType::UInt64,
+            (1u64, b"\x01\0\0\0\0\0\0\0"),
+            (0, b"\0\0\0\0\0\0\0\0"),
+            (18446744073709551615, b"\xff\xff\xff\xff\xff\xff\xff\xff")
+        )
+    );
+}
+
+#[test]
+fn intervals_have_bytes(rt: HostRuntime) {
+    let least = days_ms::new(-2147483648, -1);
+    let greatest = days_ms::new(2147483647, 3);
+    assert!(rt; days_are(greatest, 2147483647, 3));
+    assert!(rt;
+        ends_are(
+            PrimitiveType::DaysMs,
+            (least, b"\0\0\0\x80\xff\xff\xff\xff"),
+            (days_ms::new(0, 0), b"\0\0\0\0\0\0\0\0"),
+            (greatest, b"\xff\xff\xff\x7f\x03\0\0\0")
+        )
+    );
+    let least = months_days_ns::new(-2147483648, -1, -2);
+    let greatest = months_days_ns::new(2147483647, 3, 9223372036854775807);
+    assert!(rt; months_are(greatest, 2147483647, 3, 9223372036854775807));
+    assert!(rt;
+        ends_are(
+            PrimitiveType::MonthDayNano,
+            (
+                least,
+                b"\0\0\0\x80\xff\xff\xff\xff\xfe\xff\xff\xff\xff\xff\xff\xff"
+            ),
+            (
+                months_days_ns::new(0, 0, 0),
+                b"\0\0\0\0\0\0\0\0\0\0\0\0\0\0\0\0"
+            ),
+            (
+                greatest,
+                b"\xff\xff\xff\x7f\x03\0\0\0\xff\xff\xff\xff\xff\xff\xff\x7f"
+            )
+        )
+    );
 }
 
 #[test]
@@ -132,4 +260,29 @@ fn text_is_cut_between_characters(rt: HostRuntime) {
     slice_reads::<u8>();
     slices_are_one::<u8>();
     split_is_whole::<u8>();
+}
+
+#[test]
+fn kinds_hold_bytes_or_text(rt: HostRuntime) {
+    let table: [(&[u8], bool); 4] = [
+        (b"", true),
+        (b"Z\xc3\xbcrich", true),
+        (b"Z\xc3", false),
+        (b"\xed\xa0\x80", false),
+    ];
+    for (bytes, is_text) in table {
+        assert!(rt;
+            kind_takes::<BinaryKind>(bytes, true) && kind_takes::<Utf8Kind>(bytes, is_text),
+            "{bytes:?}"
+        );
+    }
+    assert!(rt; kind_is::<BinaryKind>(false, ArrowDataType::BinaryView));
+    assert!(rt; kind_is::<Utf8Kind>(true, ArrowDataType::Utf8View));
+}
+
+#[test]
+fn values_of_kinds_are_copied(rt: HostRuntime) -> Result<(), Fail> {
+    assert!(rt; bytes_are_copied(rt.alloc(), b"a\xff")?);
+    assert!(rt; text_is_copied(rt.alloc(), "Z\u{fc}rich")?);
+    Ok(())
 }
