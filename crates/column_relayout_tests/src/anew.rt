@@ -52,6 +52,44 @@ fn no_text_follows(alloc: Global, column: AnyArray) -> Result<bool, PolarsError>
     Ok(step_append(alloc, column, &rows).err() == Some(Cause::InvalidUtf8.into()))
 }
 
+fn rows_of(alloc: Global, given: &[Option<&[u8]>]) -> Result<Rows, PolarsError> {
+    let mut rows = Rows::new(alloc);
+    for row in given {
+        rows.push(*row)?;
+    }
+    Ok(rows)
+}
+
+fn follows(
+    alloc: Global,
+    column: AnyArray,
+    kind: Kind,
+    given: &[Option<&[u8]>],
+    wanted: &Lists<'_>,
+) -> Result<bool, PolarsError> {
+    let rows = rows_of(alloc, given)?;
+    Ok(column_is(&step_append(alloc, column, &rows)?, kind, wanted))
+}
+
+/// Two slots that were cut out of three, and after them these rows. The first offset is 1, and a byte lies before it.
+pub fn cut_slots_are_followed(
+    alloc: Global,
+    large: bool,
+    text: bool,
+    given: &[Option<&[u8]>],
+    wanted: Lists<'_>,
+) -> Result<bool, PolarsError> {
+    let own = lists_of(&[0, 1, 2, 4], b"\xaa\x62\x63\x64", Some(&[true, false, true]));
+    let column = match assemble(parts(alloc, large, text, own)?) {
+        Ok(column) => step_slice(column, 1, 2),
+        Err(cause) => Err(cause),
+    };
+    match column {
+        Ok(column) => follows(alloc, column, kind_by(large, text), given, &wanted),
+        Err(_) => Ok(false),
+    }
+}
+
 /// Texts take no row that is none.
 pub fn only_texts_follow(alloc: Global, large: bool) -> Result<bool, PolarsError> {
     match assemble(parts(alloc, large, true, three())?) {

@@ -81,3 +81,9 @@ pub fn byte_strings<O: Offset>(
 pub fn four<O: Offset>(alloc: Global) -> Result<Utf8Array<O>, PolarsError> {
     texts(alloc, FOUR, Utf8Array::<O>::default_dtype())
 }
+
+/// Three rows, the second of them null.
+pub const ROWS: [Option<&str>; 3] = [Some("hi"), None, Some("there")];
+
+/// Their values, an empty one for the null.
+pub const VALUES: [&str; 3] = ["hi", "", "there"];

@@ -9,9 +9,7 @@ use column_binary::BinaryArray;
 use column_checks::{Flags, Half, bitmap, ends_are, flags_are, gives, gives_back, half_of};
 use column_offset::OffsetsBuffer;
 use column_storage::{ArrayAccessor, ArrayValuesIter, Bitmap, Buffer};
-use column_utf8::{
-    MutableUtf8Array, MutableUtf8ValuesArray, Utf8Array, no_fault_is_sound, try_into_utf8,
-};
+use column_utf8::{Utf8Array, no_fault_is_sound, try_into_utf8};
 use std::alloc::Global;
 
 // ---- lists
@@ -428,31 +426,4 @@ pub fn slice_is_converted(
         part_is_converted(byte_strings::<i32>(alloc, lists)?, range, cause, wanted)
             && part_is_converted(byte_strings::<i64>(alloc, lists)?, range, cause, wanted),
     )
-}
-
-// ---- builders
-
-fn filled(alloc: Global) -> Result<MutableUtf8Array<i32>, PolarsError> {
-    let mut builder = MutableUtf8Array::new(alloc)?;
-    builder.extend([Some("é"), None, Some("€b"), None])?;
-    Ok(builder)
-}
-
-/// Rows that are pushed, and the last one taken.
-pub fn rows_are_built(alloc: Global) -> Result<bool, PolarsError> {
-    let mut builder = filled(alloc)?;
-    let last = builder.pop()?;
-    let wanted = lists_of(&[0, 2, 2, 6], "é€b".as_bytes(), Some(&[true, false, true]));
-    Ok(last.is_none() && texts_are(&builder.freeze()?, wanted))
-}
-
-/// Values, with an empty one for a null.
-pub fn values_are_built(alloc: Global) -> Result<bool, PolarsError> {
-    let mut builder = MutableUtf8ValuesArray::<i64>::new(alloc)?;
-    builder.push("é")?;
-    builder.push_null()?;
-    Ok(texts_are(
-        &builder.freeze()?,
-        lists_of(&[0, 2, 2], "é".as_bytes(), None),
-    ))
 }

@@ -4,8 +4,7 @@ use crate::cases::{FOUR, four, lists_of};
 use crate::checks::{
     Call, applied_is, are_told, dtype_is_refused, empty_is, four_are_put_together, four_are_read,
     four_are_shared, four_cut, four_give, four_large_are_read, into_binary_is, no_nulls_are,
-    nulls_are, raw_are_told, rows_are_built, set_is, slice_is_converted, slices_follow, taken_is,
-    values_are_built, with_is,
+    nulls_are, raw_are_told, set_is, slice_is_converted, slices_follow, taken_is, with_is,
 };
 use column_base::{ArrowDataType, Cause};
 use column_checks::{Flags, Half};
@@ -378,14 +377,5 @@ fn byte_strings_without_nulls_come_back(rt: HostRuntime) -> Result<(), Fail> {
     assert!(rt; slice_is_converted(rt.alloc(), lists, (0, 2), boundary, lists)?);
     let last = lists_of(&[2, 3], lists.values, None);
     assert!(rt; slice_is_converted(rt.alloc(), lists, (1, 1), invalid, last)?);
-    Ok(())
-}
-
-// ---- builders
-
-#[test]
-fn builders_freeze_into_texts(rt: HostRuntime) -> Result<(), Fail> {
-    assert!(rt; rows_are_built(rt.alloc())?);
-    assert!(rt; values_are_built(rt.alloc())?);
     Ok(())
 }
