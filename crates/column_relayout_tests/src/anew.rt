@@ -1,10 +1,12 @@
 //! What the steps that write a column anew are seen to give: one bool for each, and no assertion.
 
-use crate::cases::{kind_by, lists_of, parts, three};
+use crate::cases::{Lists, kind_by, lists_of, parts, three};
 use crate::checks::column_is;
 use column_base::{Cause, PolarsError};
 use column_relayout::Step::{Append, Rebuild, Right};
-use column_relayout::{AnyArray, Kind, Rows, assemble, relayout, step_append, step_rebuild};
+use column_relayout::{
+    AnyArray, Kind, RawColumn, Rows, assemble, relayout, step_append, step_rebuild, step_slice,
+};
 use std::alloc::Global;
 
 // ---- rows
@@ -75,17 +77,30 @@ fn follows(
 pub fn cut_slots_are_followed(
     alloc: Global,
     large: bool,
-    text: bool,
     given: &[Option<&[u8]>],
     wanted: Lists<'_>,
 ) -> Result<bool, PolarsError> {
-    let own = lists_of(&[0, 1, 2, 4], b"\xaa\x62\x63\x64", Some(&[true, false, true]));
-    let column = match assemble(parts(alloc, large, text, own)?) {
-        Ok(column) => step_slice(column, 1, 2),
-        Err(cause) => Err(cause),
-    };
-    match column {
-        Ok(column) => follows(alloc, column, kind_by(large, text), given, &wanted),
+    let flags: Option<&[bool]> = Some(&[true, false, true]);
+    let own = lists_of(&[0, 1, 2, 4], b"\xaa\xbb\xcc\xdd", flags);
+    match cut(parts(alloc, large, false, own)?) {
+        Ok(column) => follows(alloc, column, kind_by(large, false), given, &wanted),
+        Err(_) => Ok(false),
+    }
+}
+
+fn cut(parts: RawColumn) -> Result<AnyArray, Cause> {
+    step_slice(assemble(parts)?, 1, 2)
+}
+
+/// The slots of these lists, which are texts, and after them these rows.
+pub fn texts_are_followed(
+    alloc: Global,
+    own: Lists<'_>,
+    given: &[Option<&[u8]>],
+    wanted: Lists<'_>,
+) -> Result<bool, PolarsError> {
+    match assemble(parts(alloc, false, true, own)?) {
+        Ok(column) => follows(alloc, column, Kind::Utf8_32, given, &wanted),
         Err(_) => Ok(false),
     }
 }

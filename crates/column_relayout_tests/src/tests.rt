@@ -1,7 +1,8 @@
 //! The tests: each asserts what a check of `checks` says.
 
 use crate::anew::{
-    no_texts_are_rebuilt, only_texts_follow, plan_writes, rows_are, rows_follow, slots_are_rebuilt,
+    cut_slots_are_followed, no_texts_are_rebuilt, only_texts_follow, plan_writes, rows_are,
+    rows_follow, slots_are_rebuilt, texts_are_followed,
 };
 use crate::cases::{Lists, Span, cut_character, eight, framed, lists_of, span_of, three, without};
 use crate::checks::{
@@ -437,6 +438,50 @@ fn rows_are_appended(rt: HostRuntime) -> Result<(), Fail> {
             rows_follow(rt.alloc(), large, false)? && rows_follow(rt.alloc(), large, true)?
         );
         assert!(rt; only_texts_follow(rt.alloc(), large)?);
+    }
+    Ok(())
+}
+
+#[test]
+fn rows_follow_slots_that_were_cut(rt: HostRuntime) -> Result<(), Fail> {
+    // The null slot keeps its byte.
+    let rows: &[Option<&[u8]>] = &[Some(b"\xee"), Some(b""), None];
+    let wanted = lists_of(
+        &[0, 1, 3, 4, 4, 4],
+        b"\xbb\xcc\xdd\xee",
+        Some(&[false, true, true, true, false]),
+    );
+    let nulls = lists_of(
+        &[0, 1, 3, 3, 3],
+        b"\xbb\xcc\xdd",
+        Some(&[false, true, false, false]),
+    );
+    let alone = lists_of(&[0, 1, 3], b"\xbb\xcc\xdd", Some(&[false, true]));
+    for large in [false, true] {
+        assert!(rt; cut_slots_are_followed(rt.alloc(), large, rows, wanted)?);
+        assert!(rt; cut_slots_are_followed(rt.alloc(), large, &[None, None], nulls)?);
+        assert!(rt; cut_slots_are_followed(rt.alloc(), large, &[], alone)?);
+    }
+    Ok(())
+}
+
+#[test]
+fn rows_follow_texts_without_nulls(rt: HostRuntime) -> Result<(), Fail> {
+    let own = lists_of(&[1, 2], b"\xffa\xff", None);
+    let table: [(&[Option<&[u8]>], Lists<'_>); 3] = [
+        (&[], lists_of(&[0, 1], b"a", None)),
+        (
+            &[Some(b"\xc3\xa9")],
+            lists_of(&[0, 1, 3], b"a\xc3\xa9", None),
+        ),
+        (&[None], lists_of(&[0, 1, 1], b"a", Some(&[true, false]))),
+    ];
+    for (rows, wanted) in table {
+        assert!(rt;
+            texts_are_followed(rt.alloc(), own, rows, wanted)?,
+            "{}",
+            rows.len()
+        );
     }
     Ok(())
 }

@@ -312,12 +312,12 @@ impl<O: Offset> Utf8Array<O> {
 
 // ---- a builder of the same slots
 
-#[tactic(auto, using(crate::proofs::BuilderLemmas::builders))]
 impl<O: Offset> Utf8Array<O> {
     /// The same slots, to be changed: the same offsets and flags, and the value bytes up to the last offset.
     ///
     /// Each list is kept where no other column shares it, and is copied otherwise. `NoMemory` where there is none for
     /// the copies.
+    #[tactic(auto, using(crate::proofs::BuilderLemmas::texts_used))]
     pub fn into_mut(self, alloc: Global) -> Result<MutableUtf8Array<O>, PolarsError>
         ensures { Answers result None (λ b. b.lists ≡ used_lists self) }
     {

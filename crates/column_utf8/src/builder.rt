@@ -49,7 +49,6 @@ impl<O: Offset> Model for MutableUtf8Array<O> {
 
 // ---- constructors
 
-#[tactic(auto, using(crate::proofs::BuilderLemmas::builders))]
 impl<O: Offset> MutableUtf8Array<O> {
     /// No slots.
     ///
@@ -72,6 +71,7 @@ impl<O: Offset> MutableUtf8Array<O> {
     /// No slots, with room for `capacity` slots of `values` bytes together.
     ///
     /// `NoMemory` where there is none for them.
+    #[tactic(auto, using(crate::proofs::BuilderLemmas::texts_none))]
     pub fn with_capacities(
         alloc: Global,
         capacity: usize,
@@ -154,7 +154,6 @@ impl<O: Offset> MutableUtf8Array<O> {
 
 // ---- readers
 
-#[tactic(auto, using(crate::proofs::BuilderLemmas::builders))]
 impl<O: Offset> MutableUtf8Array<O> {
     /// Tells proofs that the lists are sound, the last offset is the number of value bytes and each slot is UTF-8, that
     /// there are as many slots as are counted, that one more is a `usize`, and that the last offset, and so each, is a
@@ -229,6 +228,7 @@ impl<O: Offset> MutableUtf8Array<O> {
     }
 
     /// The text of slot `i`; a null slot that was not pushed may have a text too.
+    #[tactic(auto, using(crate::proofs::BuilderLemmas::text_of))]
     pub fn value(&self, i: usize) -> &str
         requires { i < slot_count self.now.lists }
         ensures { result.now ≡ (slot_at (offset_slots self.now.lists) i).bytes }
@@ -292,6 +292,7 @@ impl<O: Offset> MutableUtf8Array<O> {
     }
 
     /// Puts other flags in place of those that there were, as [`MutableUtf8Array::with_validity`] does.
+    #[tactic(auto, using(crate::proofs::BuilderLemmas::texts_flags))]
     pub fn set_validity(&mut self, validity: Option<MutableBitmap>)
         requires { AreFlagsOf (slot_count self.old.lists) (bits_given validity) }
         ensures { self.new.lists ≡ offset_lists self.old.lists.offsets self.old.lists.values (bits_given validity) }
@@ -301,6 +302,7 @@ impl<O: Offset> MutableUtf8Array<O> {
     }
 
     /// Puts what `f` makes of the validity in its place, where there is one. Where there is none, `f` is not called.
+    #[tactic(auto, using(crate::proofs::BuilderLemmas::texts_flags))]
     pub fn apply_validity<F: FnOnce(MutableBitmap) -> MutableBitmap>(&mut self, f: F)
         requires can { F.IsAlwaysCallable f }
         requires length { (bits made : GrowingBits) → self.old.lists.flags ≡ Some bits.bits → F.post f bits made → length made.bits ≡ length bits.bits }
@@ -321,6 +323,7 @@ impl<O: Offset> MutableUtf8Array<O> {
     /// The array of these slots, whose offsets and value bytes are not copied. A validity without a null is dropped.
     ///
     /// Counts the flags, in one pass. `NoMemory` where there is none for the counts of owners.
+    #[tactic(auto, using(crate::proofs::BuilderLemmas::texts_frozen))]
     pub fn freeze(self) -> Result<Utf8Array<O>, PolarsError>
         ensures { Answers result None (λ a. a ≡ frozen_lists self.lists) }
     {
@@ -334,7 +337,6 @@ impl<O: Offset> MutableUtf8Array<O> {
 
 // ---- a slot more, a slot less
 
-#[tactic(auto, using(crate::proofs::BuilderLemmas::builders))]
 impl<O: Offset> MutableUtf8Array<O> {
     /// Makes room for `additional` more slots of `additional_values` bytes together.
     ///
@@ -356,6 +358,7 @@ impl<O: Offset> MutableUtf8Array<O> {
     ///
     /// `Overflow` where the new last offset passes the type, then `NoMemory` where there is none for the slot, and
     /// never where there is room.
+    #[tactic(auto, using(crate::proofs::BuilderLemmas::texts_value))]
     pub fn push_value(&mut self, value: &str) -> Result<(), PolarsError>
         ensures answer { Answers result (row_fault O.GREATEST self.old.lists (Some value.now)) (λ _. self.new.lists ≡ pushed_row self.old.lists (Some value.now)) }
         ensures spare_serves { 1 ≤ self.old.spare_slots → length value.now ≤ self.old.spare_bytes → Gives result (row_fault O.GREATEST self.old.lists (Some value.now)) (λ _. ⊤) }
@@ -372,6 +375,7 @@ impl<O: Offset> MutableUtf8Array<O> {
     /// Adds a null slot without bytes, and makes a validity where there is none.
     ///
     /// `NoMemory` where there is none for the slot or the validity.
+    #[tactic(auto, using(crate::proofs::BuilderLemmas::texts_null))]
     pub fn push_null(&mut self) -> Result<(), PolarsError>
         ensures answer { Answers result None (λ _. self.new.lists ≡ pushed_row self.old.lists None) }
         ensures spare_kept { OnErr result (KeepsSpare self.old self.new) }
@@ -402,6 +406,7 @@ impl<O: Offset> MutableUtf8Array<O> {
     /// Takes the last slot, and gives its text: None where it is null, or where there is none.
     ///
     /// `NoMemory` where there is none for the text, and the slot stays.
+    #[tactic(auto, using(crate::proofs::BuilderLemmas::texts_first, crate::proofs::BuilderLemmas::last_text))]
     pub fn pop(&mut self) -> Result<Option<String>, PolarsError>
         ensures answer { Answers result None (λ row. (option_map string_bytes row ≡ last_row self.old.lists) × (self.new.lists ≡ first_slots self.old.lists (slot_count self.old.lists - 1))) }
         ensures spare_kept { KeepsSpare self.old self.new }
@@ -417,6 +422,7 @@ impl<O: Offset> MutableUtf8Array<O> {
     /// Adds the slots of another builder: one copy of its value bytes, and its offsets and flags, each in one pass.
     ///
     /// `Overflow` where the new last offset passes the type, then `NoMemory` where there is none for the slots.
+    #[tactic(auto, using(crate::proofs::BuilderLemmas::texts_joined))]
     pub fn try_extend_from_self(&mut self, other: &Self) -> Result<(), PolarsError>
         ensures answer { Answers result (join_fault O.GREATEST self.old.lists other.now.lists) (λ _. self.new.lists ≡ joined_lists self.old.lists other.now.lists) }
         ensures spare_kept { OnErr result (KeepsSpare self.old self.new) }

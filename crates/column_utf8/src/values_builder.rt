@@ -44,7 +44,6 @@ impl<O: Offset> Model for MutableUtf8ValuesArray<O> {
 
 // ---- constructors
 
-#[tactic(auto, using(crate::proofs::BuilderLemmas::builders))]
 impl<O: Offset> MutableUtf8ValuesArray<O> {
     /// No slots.
     ///
@@ -67,6 +66,7 @@ impl<O: Offset> MutableUtf8ValuesArray<O> {
     /// No slots, with room for `capacity` slots of `values` bytes together.
     ///
     /// `NoMemory` where there is none for them.
+    #[tactic(auto, using(crate::proofs::BuilderLemmas::texts_none))]
     pub fn with_capacities(
         alloc: Global,
         capacity: usize,
@@ -84,6 +84,7 @@ impl<O: Offset> MutableUtf8ValuesArray<O> {
     /// `OffsetsNotFull` where it is less, `InvalidUtf8` where the bytes of all slots are not UTF-8 end to end,
     /// `CharBoundary` where some slot by itself is not, and `WrongDataType` where the data type lies in another physical
     /// type. Bytes before the first offset are not looked at.
+    #[tactic(auto, using(crate::proofs::BuilderLemmas::texts_fine))]
     pub fn try_new(
         dtype: ArrowDataType,
         offsets: Offsets<O>,
@@ -135,7 +136,6 @@ impl<O: Offset> MutableUtf8ValuesArray<O> {
 
 // ---- readers
 
-#[tactic(auto, using(crate::proofs::BuilderLemmas::builders))]
 impl<O: Offset> MutableUtf8ValuesArray<O> {
     /// Tells proofs what [`MutableUtf8Array::known`] does, and that there is no validity.
     pub fn known(&self)
@@ -203,6 +203,7 @@ impl<O: Offset> MutableUtf8ValuesArray<O> {
     }
 
     /// The text of slot `i`.
+    #[tactic(auto, using(crate::proofs::BuilderLemmas::text_of))]
     pub fn value(&self, i: usize) -> &str
         requires { i < slot_count self.now.lists }
         ensures { result.now ≡ (slot_at (offset_slots self.now.lists) i).bytes }
@@ -244,6 +245,7 @@ impl<O: Offset> MutableUtf8ValuesArray<O> {
     /// The array of these slots, whose offsets and value bytes are not copied. It has no validity.
     ///
     /// `NoMemory` where there is none for the counts of owners.
+    #[tactic(auto, using(crate::proofs::BuilderLemmas::texts_values))]
     pub fn freeze(self) -> Result<Utf8Array<O>, PolarsError>
         ensures answer { Answers result None (λ a. a ≡ self.lists) }
         ensures flags { self.lists.flags ≡ None }
@@ -265,7 +267,6 @@ impl<O: Offset> MutableUtf8ValuesArray<O> {
 
 // ---- a slot more, a slot less
 
-#[tactic(auto, using(crate::proofs::BuilderLemmas::builders))]
 impl<O: Offset> MutableUtf8ValuesArray<O> {
     /// Makes room for `additional` more slots of `additional_values` bytes together.
     ///
@@ -287,6 +288,7 @@ impl<O: Offset> MutableUtf8ValuesArray<O> {
     ///
     /// `Overflow` where the new last offset passes the type, then `NoMemory` where there is none for the slot, and
     /// never where there is room.
+    #[tactic(auto, using(crate::proofs::BuilderLemmas::texts_value))]
     pub fn push(&mut self, value: &str) -> Result<(), PolarsError>
         ensures answer { Answers result (row_fault O.GREATEST self.old.lists (Some value.now)) (λ _. self.new.lists ≡ pushed_row self.old.lists (Some value.now)) }
         ensures spare_serves { 1 ≤ self.old.spare_slots → length value.now ≤ self.old.spare_bytes → Gives result (row_fault O.GREATEST self.old.lists (Some value.now)) (λ _. ⊤) }
@@ -303,6 +305,7 @@ impl<O: Offset> MutableUtf8ValuesArray<O> {
     /// Adds a slot without bytes.
     ///
     /// `NoMemory` where there is none for the slot, and never where there is room.
+    #[tactic(auto, using(crate::proofs::BuilderLemmas::texts_value))]
     pub fn push_null(&mut self) -> Result<(), PolarsError>
         ensures answer { Answers result None (λ _. self.new.lists ≡ pushed_row self.old.lists (Some [])) }
         ensures spare_serves { 1 ≤ self.old.spare_slots → IsOk result }
@@ -318,6 +321,7 @@ impl<O: Offset> MutableUtf8ValuesArray<O> {
     /// Takes the last slot, and gives its text: None exactly where there is none.
     ///
     /// `NoMemory` where there is none for the text, and the slot stays.
+    #[tactic(auto, using(crate::proofs::BuilderLemmas::texts_first, crate::proofs::BuilderLemmas::last_text))]
     pub fn pop(&mut self) -> Result<Option<String>, PolarsError>
         ensures answer { Answers result None (λ row. (option_map string_bytes row ≡ last_row self.old.lists) × (self.new.lists ≡ first_slots self.old.lists (slot_count self.old.lists - 1))) }
         ensures none { IfOk result (λ row. MatchOption row (slot_count self.old.lists ≡ 0) (λ _. 0 < slot_count self.old.lists)) }
@@ -334,6 +338,7 @@ impl<O: Offset> MutableUtf8ValuesArray<O> {
     /// Adds the slots of another builder: one copy of its value bytes, and its offsets in one pass.
     ///
     /// `Overflow` where the new last offset passes the type, then `NoMemory` where there is none for the slots.
+    #[tactic(auto, using(crate::proofs::BuilderLemmas::texts_joined))]
     pub fn try_extend_from_self(&mut self, other: &Self) -> Result<(), PolarsError>
         ensures answer { Answers result (join_fault O.GREATEST self.old.lists other.now.lists) (λ _. self.new.lists ≡ joined_lists self.old.lists other.now.lists) }
         ensures spare_kept { OnErr result (KeepsSpare self.old self.new) }
