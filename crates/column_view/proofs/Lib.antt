@@ -1,0 +1,4 @@
+pub mod ViewsLemmas
+pub mod FaultsLemmas
+pub mod InlineLemmas
+pub mod CutsLemmas
