@@ -1,0 +1,4 @@
+pub mod SlotsLemmas
+pub mod RowsLemmas
+pub mod UpdatesLemmas
+pub mod TextsLemmas

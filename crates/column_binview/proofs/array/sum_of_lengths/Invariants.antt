@@ -1,0 +1,10 @@
+use Rattle.std.proofs.Common.{◌≡◌, ◌≤◌, ◌*◌, ◌^◌, take, sum_by}
+use Rattle.column_view.specs.Views.{view_length}
+use Rattle.column_binview.proofs.array.sum_of_lengths.Given as goal
+
+-- each length is below 2 ^ 32
+abbrev pub invariant-loop-view : goal.invariant-loop-view
+invariant-loop-view l = record {
+  so_far : l.total ≡ sum_by view_length (take l.view-index l.views);
+  bound : l.total ≤ l.view-index * 2 ^ 32;
+}
