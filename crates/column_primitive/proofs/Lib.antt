@@ -1,0 +1,4 @@
+pub mod NumbersLemmas
+pub mod RowsLemmas
+pub mod OperationsLemmas
+pub mod EqualLemmas

@@ -1,0 +1,243 @@
+-- Laws of arrays of numbers that grow, are cut back and are changed.
+use Rattle.std.proofs.Common.{◌≡◌, ℕ, zero, suc, ◌+◌, ◌-◌, ◌<◌, ◌≤◌, Bool, true, false, List, [], ◌∷◌, ◌++◌, length, map, take, replicate, get_or, Option, None, Some, refl, sym, ◌∙◌, ap, subst, arith, append_assoc}
+use Rattle.std.specs.Prelude.{slice_range, slice_index_or, option_map, slice_get, slice_set, min, is_some, if◌then◌else◌}
+use Rattle.std.proofs.Math.ListN.{length-set}
+use Rattle.std.proofs.lemmas.List.{length-append, length-map, length-replicate, length-take-le, map-append, append-nil, take_more}
+use Rattle.column_base.specs.declared.datatypes.ArrowDataType.{ArrowDataType}
+use Rattle.std.proofs.lemmas.Bool.Decides.{nat_tests}
+use Rattle.column_base.specs.Pushes.{grown, growth_fault}
+use Rattle.column_storage.specs.Bits.{given_bits, optional_values, flags_of, frozen_flags, pushed_flag, joined_flags}
+use Rattle.column_storage.specs.Slots.{flagged_slots}
+use Rattle.column_storage.specs.Validity.{AreFlagsOf}
+use Rattle.std.proofs.Math.Seq.{take-length}
+use Rattle.column_storage.proofs.RangesLemmas.{range-first, range-last, range-length}
+use Rattle.column_storage.proofs.GrowingFlagsLemmas.{are_flags-pushed, are_flags-first, are_flags-frozen, are_flags-joined, flagged_slots-pushed, flagged_slots-first, flagged_slots-frozen, flagged_slots-joined, flags-joined}
+use Rattle.column_primitive.specs.Numbers.{NumberLists, number_lists, number_count, number_slots, number_rows, number_at, AreSoundNumbers, NumberArray, number_array}
+use Rattle.column_primitive.specs.Rows.{no_numbers, stored, slot_of, pushed_row, row_growth, first_numbers, joined_array, constant_flags, changed_flag}
+use Rattle.column_primitive.proofs.NumbersLemmas.{flagged}
+
+-- ---- one slot more
+
+pub sound_more : {T : Type 0} (lists : NumberLists T) (x : T) (bit : Bool) → AreSoundNumbers lists → AreSoundNumbers (number_lists (lists.numbers ++ x ∷ []) (pushed_flag (number_count lists) lists.flags bit))
+sound_more lists x bit sound = record {
+  flagged = subst (λ (n : ℕ). AreFlagsOf n (pushed_flag (number_count lists) lists.flags bit)) (sym (length-append lists.numbers (x ∷ []))) (are_flags-pushed (number_count lists) lists.flags bit sound.flagged);
+}
+
+pub slots-pushed : {T : Type 0} (bytes : T → List ℕ) (null : T) (array : NumberArray T) (row : Option T) → AreSoundNumbers array.lists → number_slots bytes (pushed_row null array row).lists ≡ number_slots bytes array.lists ++ slot_of bytes null row ∷ []
+unfolding number_slots
+slots-pushed bytes null array row sound =
+    let values = map bytes array.lists.numbers in
+    let flags = pushed_flag (number_count array.lists) array.lists.flags (is_some row) in
+    ap (flagged_slots flags) (map-append bytes array.lists.numbers (stored null row ∷ []))
+    ∙ ap (λ (n : ℕ). flagged_slots (pushed_flag n array.lists.flags (is_some row)) (values ++ bytes (stored null row) ∷ [])) (sym (length-map array.lists.numbers bytes))
+    ∙ flagged_slots-pushed array.lists.flags values (is_some row) (bytes (stored null row)) (flagged bytes array.lists sound)
+
+-- ---- the first slots
+
+pub sound_first : {T : Type 0} (lists : NumberLists T) (n : ℕ) → AreSoundNumbers lists → n ≤ number_count lists → AreSoundNumbers (first_numbers lists n)
+unfolding first_numbers
+sound_first lists n sound within = record {
+  flagged = subst (λ (m : ℕ). AreFlagsOf m (option_map (take n) lists.flags)) (sym (length-take-le n lists.numbers within)) (are_flags-first lists.flags n (number_count lists) within sound.flagged);
+}
+
+pub slots-first : {T : Type 0} (bytes : T → List ℕ) (lists : NumberLists T) (n : ℕ) → n ≤ number_count lists → number_slots bytes (first_numbers lists n) ≡ take n (number_slots bytes lists)
+unfolding first_numbers number_slots
+slots-first bytes lists n within =
+    let count = length-map lists.numbers bytes in
+    ap (flagged_slots (option_map (take n) lists.flags)) (map-take bytes lists.numbers n)
+    ∙ flagged_slots-first lists.flags (map bytes lists.numbers) n (omega arith)
+  where
+    map-take : {X Y : Type 0} (f : X → Y) (xs : List X) (n : ℕ) → map f (take n xs) ≡ take n (map f xs)
+    map-take f xs zero = refl
+    map-take f [] (suc n) = refl
+    map-take f (x ∷ xs) (suc n) = ap (λ ys. f x ∷ ys) (map-take f xs n)
+
+-- ---- frozen
+
+pub sound-frozen : {T : Type 0} (lists : NumberLists T) → AreSoundNumbers lists → AreSoundNumbers (number_lists lists.numbers (frozen_flags lists.flags))
+sound-frozen lists sound = record { flagged = are_flags-frozen lists.flags (number_count lists) sound.flagged }
+
+pub slots-frozen : {T : Type 0} (bytes : T → List ℕ) (lists : NumberLists T) → AreSoundNumbers lists → number_slots bytes (number_lists lists.numbers (frozen_flags lists.flags)) ≡ number_slots bytes lists
+unfolding number_slots
+slots-frozen bytes lists sound = flagged_slots-frozen lists.flags (map bytes lists.numbers) (flagged bytes lists sound)
+
+-- ---- slots of others
+
+pub sound_joined : {T : Type 0} (lists others : NumberLists T) → AreSoundNumbers lists → AreSoundNumbers others → AreSoundNumbers (number_lists (lists.numbers ++ others.numbers) (joined_flags (number_count lists) lists.flags (number_count others) others.flags))
+sound_joined lists others sound rest = record {
+  flagged = subst (λ (n : ℕ). AreFlagsOf n (joined_flags (number_count lists) lists.flags (number_count others) others.flags)) (sym (length-append lists.numbers others.numbers)) (are_flags-joined (number_count lists) lists.flags (number_count others) others.flags sound.flagged rest.flagged);
+}
+
+pub flags-valid : (n : ℕ) (flags : Option (List Bool)) (m : ℕ) → option_map (λ bits. bits ++ flags_of m None) flags ≡ joined_flags n flags m None
+flags-valid n None m = refl
+flags-valid n (Some bits) m = refl
+
+pub slots-joined : {T : Type 0} (bytes : T → List ℕ) (array : NumberArray T) (others : NumberLists T) → AreSoundNumbers array.lists → number_slots bytes (joined_array array others).lists ≡ number_slots bytes array.lists ++ number_slots bytes others
+unfolding number_slots
+slots-joined bytes array others sound =
+    let values = map bytes array.lists.numbers in
+    let rest = map bytes others.numbers in
+    ap (flagged_slots (joined_flags (number_count array.lists) array.lists.flags (number_count others) others.flags)) (map-append bytes array.lists.numbers others.numbers)
+    ∙ ap (λ (n : ℕ). flagged_slots (joined_flags n array.lists.flags (number_count others) others.flags) (values ++ rest)) (sym (length-map array.lists.numbers bytes))
+    ∙ ap (λ (m : ℕ). flagged_slots (joined_flags (length values) array.lists.flags m others.flags) (values ++ rest)) (sym (length-map others.numbers bytes))
+    ∙ flagged_slots-joined array.lists.flags values others.flags rest (flagged bytes array.lists sound)
+
+-- ---- slots of one row
+
+pub flags_of-constant : (n : ℕ) (bit : Bool) → flags_of n (constant_flags n bit) ≡ replicate n bit
+flags_of-constant zero true = refl
+flags_of-constant zero false = refl
+flags_of-constant (suc n) true = refl
+flags_of-constant (suc n) false = grind (arith, nat_tests)
+
+pub joined-given : (n : ℕ) (bits : List Bool) (m : ℕ) (bit : Bool) → joined_flags n (Some bits) m (constant_flags m bit) ≡ Some (bits ++ replicate m bit)
+joined-given n bits m bit = ap (λ (flags : List Bool). Some (bits ++ flags)) (flags_of-constant m bit)
+
+pub joined-nothing : (n m : ℕ) (bit : Bool) → m ≡ 0 → joined_flags n None m (constant_flags m bit) ≡ None
+joined-nothing n m true none = refl
+joined-nothing n m false none = rw none refl
+
+pub joined-null : (n m : ℕ) → 0 < m → joined_flags n None m (constant_flags m false) ≡ Some (replicate n true ++ replicate m false)
+joined-null n zero some = absurd (omega arith)
+joined-null n (suc m) some = grind (arith, nat_tests)
+
+constant-null : (n : ℕ) → 0 < n → constant_flags n false ≡ Some (replicate n false)
+constant-null n some = grind (arith, nat_tests)
+
+pub are_flags-constant : (n : ℕ) (bit : Bool) → AreFlagsOf n (constant_flags n bit)
+are_flags-constant zero true = tt
+are_flags-constant zero false = tt
+are_flags-constant (suc n) true = tt
+are_flags-constant (suc n) false = subst (λ (flags : Option (List Bool)). AreFlagsOf (suc n) flags) (sym (constant-null (suc n) (omega arith))) (length-replicate (suc n) false)
+
+pub sound_extended : {T : Type 0} (lists : NumberLists T) (n : ℕ) (x : T) (bit : Bool) → AreSoundNumbers lists → AreSoundNumbers (number_lists (lists.numbers ++ replicate n x) (joined_flags (number_count lists) lists.flags n (constant_flags n bit)))
+sound_extended lists n x bit sound =
+    let size : length (lists.numbers ++ replicate n x) ≡ number_count lists + n = length-append lists.numbers (replicate n x) ∙ ap (λ (m : ℕ). number_count lists + m) (length-replicate n x) in
+    record {
+      flagged = subst (λ (m : ℕ). AreFlagsOf m (joined_flags (number_count lists) lists.flags n (constant_flags n bit))) (sym size) (are_flags-joined (number_count lists) lists.flags n (constant_flags n bit) sound.flagged (are_flags-constant n bit));
+    }
+
+-- ---- another row
+
+pub length_set : {X : Type 0} (xs : List X) (i : ℕ) (x : X) → length (slice_set xs i x) ≡ length xs
+length_set xs i x = length-set xs i x
+
+pub flags-changed : (n : ℕ) (flags : Option (List Bool)) (i : ℕ) (bit : Bool) → AreFlagsOf n flags → AreFlagsOf n (changed_flag n flags i bit)
+flags-changed n None i true all = tt
+flags-changed n None i false all = length-set (replicate n true) i false ∙ length-replicate n true
+flags-changed n (Some bits) i true all = length-set bits i true ∙ all
+flags-changed n (Some bits) i false all = length-set bits i false ∙ all
+
+pub sound-changed : {T : Type 0} (lists : NumberLists T) (i : ℕ) (x : T) (bit : Bool) → AreSoundNumbers lists → AreSoundNumbers (number_lists (slice_set lists.numbers i x) (changed_flag (number_count lists) lists.flags i bit))
+sound-changed lists i x bit sound = record {
+  flagged = subst (λ (n : ℕ). AreFlagsOf n (changed_flag (number_count lists) lists.flags i bit)) (sym (length-set lists.numbers i x)) (flags-changed (number_count lists) lists.flags i bit sound.flagged);
+}
+
+-- ---- room
+
+pub room_of_less : (n a b : ℕ) → min (n + a) (n + b) ≡ n + min a b
+room_of_less n a b = omega arith
+
+-- ---- rows
+
+length-optional_values : {X : Type 0} (bits : List Bool) (xs : List X) → length (optional_values bits xs) ≡ length xs
+length-optional_values bits [] = refl
+length-optional_values [] (x ∷ xs) = ap suc (length-optional_values [] xs)
+length-optional_values (true ∷ bits) (x ∷ xs) = ap suc (length-optional_values bits xs)
+length-optional_values (false ∷ bits) (x ∷ xs) = ap suc (length-optional_values bits xs)
+
+pub rows-count : {T : Type 0} (lists : NumberLists T) → length (number_rows lists) ≡ number_count lists
+rows-count lists = length-optional_values (given_bits lists.flags) lists.numbers
+
+row_all : {X : Type 0} (xs : List X) (i : ℕ) → i < length xs → slice_get (optional_values [] xs) i ≡ Some (slice_get xs i)
+row_all [] i within = absurd (omega arith)
+row_all (x ∷ xs) zero within = refl
+row_all (x ∷ xs) (suc i) within = row_all xs i (omega arith)
+
+row_got : {X : Type 0} (bits : List Bool) (xs : List X) (i : ℕ) → length bits ≡ length xs → i < length xs → slice_get (optional_values bits xs) i ≡ Some (if slice_index_or bits i true then slice_get xs i else None)
+row_got bits [] i same within = absurd (omega arith)
+row_got [] (x ∷ xs) i same within = absurd (omega arith)
+row_got (true ∷ bits) (x ∷ xs) zero same within = refl
+row_got (false ∷ bits) (x ∷ xs) zero same within = refl
+row_got (true ∷ bits) (x ∷ xs) (suc i) same within = row_got bits xs i (omega arith) (omega arith)
+row_got (false ∷ bits) (x ∷ xs) (suc i) same within = row_got bits xs i (omega arith) (omega arith)
+
+got_row : {T : Type 0} (numbers : List T) (flags : Option (List Bool)) (i : ℕ) → AreFlagsOf (length numbers) flags → i < length numbers → slice_get (number_rows (number_lists numbers flags)) i ≡ Some (number_at (number_lists numbers flags) i)
+got_row numbers None i all within = row_all numbers i within
+got_row numbers (Some bits) i all within = row_got bits numbers i all within
+
+pub row_at : {T : Type 0} (lists : NumberLists T) (i : ℕ) → AreSoundNumbers lists → i < number_count lists → slice_get (number_rows lists) i ≡ Some (number_at lists i)
+row_at lists i sound within = got_row lists.numbers lists.flags i sound.flagged within
+
+pub row-first : {T : Type 0} (lists : NumberLists T) (i e : ℕ) → AreSoundNumbers lists → i < e → e ≤ number_count lists → slice_range (number_rows lists) i e ≡ number_at lists i ∷ slice_range (number_rows lists) (i + 1) e
+row-first lists i e sound inside within = range-first (number_rows lists) i e (number_at lists i) (row_at lists i sound (omega arith)) inside
+
+pub row-last : {T : Type 0} (lists : NumberLists T) (i e : ℕ) → AreSoundNumbers lists → i ≤ e → e < number_count lists → slice_range (number_rows lists) i (e + 1) ≡ slice_range (number_rows lists) i e ++ number_at lists e ∷ []
+row-last lists i e sound inside within = range-last (number_rows lists) i e (number_at lists e) (row_at lists e sound within) inside
+
+pub rows-left : {T : Type 0} (lists : NumberLists T) (i e : ℕ) → e ≤ number_count lists → length (slice_range (number_rows lists) i e) ≡ e - i
+rows-left lists i e within =
+    let size = length-optional_values (given_bits lists.flags) lists.numbers in
+    range-length (number_rows lists) i e (omega arith)
+
+pub rows_whole : {T : Type 0} (lists : NumberLists T) → slice_range (number_rows lists) 0 (number_count lists) ≡ number_rows lists
+rows_whole lists =
+    let size = length-optional_values (given_bits lists.flags) lists.numbers in
+    let all : number_count lists - 0 ≡ length (number_rows lists) = omega arith in
+    ap (λ (n : ℕ). take n (number_rows lists)) all ∙ take-length (number_rows lists)
+
+-- ---- rows that are pushed
+
+pub never_refused : {T : Type 0} (null : T) (array : NumberArray T) (rows : List (Option T)) → growth_fault (row_growth null) array rows ≡ None
+never_refused null array [] = refl
+never_refused null array (row ∷ rows) = never_refused null (pushed_row null array row) rows
+
+pub map_same : {X : Type 0} (xs : List X) → map (λ x. x) xs ≡ xs
+map_same [] = refl
+map_same (x ∷ xs) = ap (λ ys. x ∷ ys) (map_same xs)
+
+pub ruleset row_places = (row-first, row-last, rows-left, rows_whole)
+
+pub ruleset rows = (sound_more)
+
+pub ruleset firsts = (sound_first)
+
+pub ruleset freezing = (sound-frozen)
+
+pub ruleset changes = (sound-changed)
+
+pub ruleset room = (room_of_less)
+
+pub ruleset joining = (sound_joined, flags-valid, flags-joined)
+
+pub ruleset extending = (sound_extended)
+
+pub ruleset constants = (joined-given, joined-nothing, joined-null)
+
+-- rows without a null, after numbers without flags
+values_after : {T : Type 0} (null : T) (dtype : ArrowDataType) (before values : List T) → grown (row_growth null) (number_array dtype (number_lists before None)) (map (λ value. Some value) values) ≡ number_array dtype (number_lists (before ++ values) None)
+values_after null dtype before [] = ap (λ numbers. number_array dtype (number_lists numbers None)) (sym (append-nil before))
+values_after null dtype before (x ∷ values) =
+    values_after null dtype (before ++ x ∷ []) values
+    ∙ ap (λ numbers. number_array dtype (number_lists numbers None)) (append_assoc before (x ∷ []) values)
+
+pub values_are_numbers : {T : Type 0} (null : T) (dtype : ArrowDataType) (values : List T) → grown (row_growth null) (no_numbers dtype) (map (λ value. Some value) values) ≡ number_array dtype (number_lists values None)
+values_are_numbers null dtype values = values_after null dtype [] values
+
+pub ruleset pushed_slots = (slots-pushed)
+
+pub ruleset first_slots = (slots-first)
+
+pub ruleset joined_slots = (slots-joined)
+
+pub ruleset frozen_slots = (slots-frozen)
+
+-- ---- casts
+
+-- one more of a list whose elements are each made another
+pub recast_more : {X Y : Type 0} (f : X → Y) (xs : List X) (i : ℕ) (x : X) (new old : List Y) → i < length xs → x ≡ get_or xs i x → new ≡ old ++ f x ∷ [] → old ≡ map f (take i xs) → new ≡ map f (take (i + 1) xs)
+recast_more f xs i x new old within at is so =
+    is
+    ∙ ap (λ ys. ys ++ f x ∷ []) so
+    ∙ sym (map-append f (take i xs) (x ∷ []))
+    ∙ ap (map f) (sym (take_more xs i x within ∙ ap (λ y. take i xs ++ y ∷ []) (sym at)))
