@@ -1,0 +1,4 @@
+pub mod Types
+pub mod Slots
+pub mod Rows
+pub mod Operations
