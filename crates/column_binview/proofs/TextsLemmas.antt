@@ -35,4 +35,4 @@ no_cause false none = absurd (cc)
 pub texts_are : (lists : ViewLists) → AreSoundViews true lists → are_well_formed_utf8 (values_of (view_slots lists)) ≡ true
 texts_are lists sound = no_cause _ (sym (contents_fault-slots lists sound.flagged) ∙ no_contents_fault lists sound)
 
-pub ruleset contents = (contents_fault-slots, texts_are)
+pub ruleset text_slots = (contents_fault-slots, texts_are)

@@ -33,7 +33,7 @@ pub fn texts_are_byte_strings()
 {}
 
 /// Contents are no texts exactly where some slot, also a null one, is not UTF-8; and each slot of texts is UTF-8.
-#[tactic(auto, using(crate::proofs::TextsLemmas::contents))]
+#[tactic(auto, using(crate::proofs::TextsLemmas::text_slots))]
 pub fn contents_are_slots()
     ensures fault { (lists : ViewLists) → AreFlagsOf (view_count lists) lists.flags
         → contents_fault lists.views lists.buffers ≡ cause_if (not (are_well_formed_utf8 (values_of (view_slots lists)))) InvalidUtf8 }
