@@ -4,7 +4,7 @@ use Rattle.column_base.specs.Kinds.{ColumnKind}
 use Rattle.column_relayout.specs.declared.steps.Step.{Step}
 use Rattle.column_relayout.specs.declared.steps.Step.TheVariants.{Slice, Left, Right, ToUtf8, ToBinary, Append, Rebuild}
 use Rattle.column_relayout.specs.Kinds.{is_text}
-use Rattle.column_relayout.specs.Columns.{RawLists, offset_column, column_kind, slots_of, count_of, parts_fault, AreSound, part_of, retyped}
+use Rattle.column_relayout.specs.Columns.{RawLists, offset_column, view_column, column_kind, slots_of, count_of, parts_fault, AreSound, IsWithinType, part_of, retyped}
 use Rattle.column_relayout.specs.Plans.{step_fault, kind_after, is_light, IsLight, light_step}
 use Rattle.column_relayout.specs.Steps.{Relays}
 use Rattle.column_relayout.specs.Cuts.{span_after, as_read, cut_once}
@@ -49,6 +49,7 @@ after_part start middle end plan from n sound within is cut =
 after_retyped : (start end : RawLists) (text : Bool) (kind : ColumnKind) (plan : List Step) → IsCut (retyped text start) kind (0, count_of (retyped text start)) plan end → IsCut start kind (0, count_of start) plan end
 unfolding IsCut
 after_retyped (offset_column large old lists) end text kind plan cut = cut
+after_retyped (view_column old lists) end text kind plan cut = cut
 
 cut_after : (start middle end : RawLists) (step : Step) (plan : List Step) → AreSound start → is_light step ≡ true → step_fault (column_kind start) (slots_of start) step ≡ None → middle ≡ light_step start step → IsCut middle (column_kind middle) (0, count_of middle) plan end → IsCut start (column_kind middle) (span_after (0, count_of start) step) plan end
 unfolding step_fault light_step
@@ -85,6 +86,6 @@ cut_by start end (step ∷ plan) sound relays light =
     subst (λ (kind : ColumnKind). IsCut start kind (span_after (0, count_of start) step) plan end) steps.kind
     (cut_after start middle end step plan sound light.0 relays.0 (light_laid start middle step light.0 steps.laid) (cut_by middle end plan steps.well_formed.sound relays.1.2 light.1))
 
-pub light_cut : (start end : RawLists) (plan : List Step) → parts_fault start ≡ None → Relays start plan end → IsLight plan → as_read end ≡ as_read (cut_once start plan)
+pub light_cut : (start end : RawLists) (plan : List Step) → IsWithinType start → parts_fault start ≡ None → Relays start plan end → IsLight plan → as_read end ≡ as_read (cut_once start plan)
 unfolding IsCut
-light_cut start end plan none relays light = (cut_by start end plan (sound_where_no_fault start none) relays light).1
+light_cut start end plan within none relays light = (cut_by start end plan (sound_where_no_fault start within none) relays light).1

@@ -1,18 +1,19 @@
 -- How far a plan has come: the facts that a loop over its steps keeps. And what follows from the steps of a plan.
-use Rattle.std.proofs.Common.{◌≡◌, ℕ, ◌+◌, ◌<◌, ◌≤◌, Bool, true, false, List, [], ◌∷◌, ◌++◌, length, drop, get_or, Option, Some, None, MatchBool, Err, refl, sym, ◌∙◌, ap, subst}
+use Rattle.std.proofs.Common.{◌≡◌, ℕ, ◌+◌, ◌<◌, ◌≤◌, Bool, true, false, List, [], ◌∷◌, ◌++◌, length, drop, get_or, Option, Some, None, MatchBool, Err, refl, sym, ◌∙◌, ap, subst, ◌-◌}
 use Rattle.std.proofs.lemmas.List.{at_drop_all, drop_more}
 use Rattle.column_base.specs.declared.errors.Cause.{Cause}
 use Rattle.column_base.specs.Kinds.{Slot, ColumnKind}
 use Rattle.column_base.specs.Kinds as kinds
 use Rattle.column_base.specs.declared.errors.PolarsError.{PolarsError}
 use Rattle.column_base.specs.declared.errors.PolarsError.TheVariants.{ComputeError, OutOfBounds, NoMemory}
-use Rattle.column_binary.specs.Slots.{offset_slots}
+use Rattle.column_binary.specs.Slots.{offset_slots, sliced_lists}
+use Rattle.column_binview.specs.Slots.{sliced_views}
 use Rattle.column_relayout.specs.declared.columns.ColumnError.{ColumnError}
 use Rattle.column_relayout.specs.declared.columns.ColumnError.TheVariants as refusals
 use Rattle.column_relayout.specs.declared.steps.Step.{Step}
 use Rattle.column_relayout.specs.declared.steps.Step.TheVariants.{Slice, Left, Right, ToUtf8, ToBinary, Append, Rebuild}
 use Rattle.column_relayout.specs.Kinds.{is_text, offset_kind}
-use Rattle.column_relayout.specs.Columns.{RawLists, offset_column, column_kind, slots_of, parts_fault, IsWellFormed}
+use Rattle.column_relayout.specs.Columns.{RawLists, offset_column, view_column, column_kind, slots_of, count_of, parts_fault, part_of, retyped, shared_bytes, IsWellFormed}
 use Rattle.column_relayout.specs.Plans.{step_fault, kind_after, slots_after, leads, faults, at_fault, meaning_from, plan_meaning, is_light, IsLight, ReachesHeavy, light_step, light_lists}
 use Rattle.column_relayout.specs.Written.{written_lists}
 use Rattle.column_relayout.specs.Steps.{IsWritten, IsLaid, StepsTo, Relays}
@@ -35,6 +36,32 @@ light_relays start end [] relays light = relays
 light_relays start end (step ∷ plan) relays light =
     light_relays relays.1.0 end plan relays.1.2 light.1
     ∙ ap (λ (column : RawLists). light_lists column plan) (light_laid start relays.1.0 step light.0 relays.1.1.laid)
+
+shared-part : (column : RawLists) (from n : ℕ) → shared_bytes (part_of column from n) ≡ shared_bytes column
+unfolding sliced_lists sliced_views
+shared-part (offset_column large text lists) from n = refl
+shared-part (view_column text lists) from n = refl
+
+shared-retyped : (column : RawLists) (text : Bool) → shared_bytes (retyped text column) ≡ shared_bytes column
+shared-retyped (offset_column large old lists) text = refl
+shared-retyped (view_column old lists) text = refl
+
+shared-step : (column : RawLists) (step : Step) → shared_bytes (light_step column step) ≡ shared_bytes column
+unfolding light_step
+shared-step column (Slice from n) = shared-part column from n
+shared-step column (Left n) = shared-part column 0 n
+shared-step column (Right n) = shared-part column n (count_of column - n)
+shared-step column ToUtf8 = shared-retyped column true
+shared-step column ToBinary = shared-retyped column false
+shared-step column (Append rows) = refl
+shared-step column (Rebuild next) = refl
+
+shared-steps : (column : RawLists) (plan : List Step) → shared_bytes (light_lists column plan) ≡ shared_bytes column
+shared-steps column [] = refl
+shared-steps column (step ∷ plan) = shared-steps (light_step column step) plan ∙ shared-step column step
+
+pub light_keeps : (start end : RawLists) (plan : List Step) → Relays start plan end → IsLight plan → shared_bytes end ≡ shared_bytes start
+light_keeps start end plan relays light = ap shared_bytes (light_relays start end plan relays light) ∙ shared-steps start plan
 
 meaning_relays : (at : ℕ) (start end : RawLists) (plan : List Step) → Relays start plan end → meaning_from at (column_kind start) (slots_of start) plan ≡ leads (column_kind end) (slots_of end)
 meaning_relays at start end [] relays = ap (λ (column : RawLists). leads (column_kind column) (slots_of column)) (sym relays)
@@ -99,12 +126,14 @@ same_flags a b c d same = (
   sym (text_is a b) ∙ ap is_text same ∙ text_is c d,
 )
 
+-- a kind with offsets is none with views
 written_is : (new : RawLists) (large text : Bool) → column_kind new ≡ offset_kind large text → IsWritten new → new ≡ offset_column large text (written_lists (slots_of new))
 written_is (offset_column wide texts lists) large text kind written =
     let flags = same_flags wide texts large text kind in
     ap (offset_column wide texts) written
     ∙ ap (λ (l : Bool). offset_column l texts (written_lists (offset_slots lists))) flags.0
     ∙ ap (λ (t : Bool). offset_column large t (written_lists (offset_slots lists))) flags.1
+written_is (view_column texts lists) large text kind written = absurd written
 
 heavy_writes : (old new : RawLists) (step : Step) → is_light step ≡ false → IsLaid old step new → IsWritten new
 heavy_writes old new (Slice from n) heavy laid = absurd (cc)

@@ -5,7 +5,8 @@ use Rattle.column_relayout.specs.declared.columns.AnyArray.{AnyArray}
 use Rattle.column_relayout.specs.declared.columns.AnyArray.TheVariants as arrays
 use Rattle.column_relayout.specs.declared.columns.RawColumn.{RawColumn}
 use Rattle.column_relayout.specs.declared.columns.RawColumn.TheVariants as parts
-use Rattle.column_relayout.specs.Columns.{RawLists, offset_column}
+use Rattle.column_binview.specs.Slots.{view_lists}
+use Rattle.column_relayout.specs.Columns.{RawLists, offset_column, view_column}
 
 -- the raw lists of a column
 abbrev pub lists_of : AnyArray → RawLists
@@ -13,8 +14,11 @@ lists_of (arrays.Binary32 lists) = offset_column false false lists
 lists_of (arrays.Binary64 lists) = offset_column true false lists
 lists_of (arrays.Utf8_32 lists) = offset_column false true lists
 lists_of (arrays.Utf8_64 lists) = offset_column true true lists
+lists_of (arrays.BinView lists) = view_column false lists
+lists_of (arrays.Utf8View lists) = view_column true lists
 
 -- the raw lists of parts
 abbrev pub lists_of_parts : RawColumn → RawLists
 lists_of_parts (parts.Offset32 text offsets values validity) = offset_column false text (offset_lists offsets values validity)
 lists_of_parts (parts.Offset64 text offsets values validity) = offset_column true text (offset_lists offsets values validity)
+lists_of_parts (parts.View text views buffers validity) = view_column text (view_lists views buffers validity)

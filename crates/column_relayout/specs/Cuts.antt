@@ -5,7 +5,8 @@ use Rattle.column_binary.specs.Slots.{offset_lists, slot_count}
 use Rattle.column_relayout.specs.declared.steps.Step.{Step}
 use Rattle.column_relayout.specs.declared.steps.Step.TheVariants.{Slice, Left, Right}
 use Rattle.column_relayout.specs.Kinds.{is_text}
-use Rattle.column_relayout.specs.Columns.{RawLists, offset_column, column_kind, count_of, part_of, retyped}
+use Rattle.column_binview.specs.Slots.{view_lists, view_count}
+use Rattle.column_relayout.specs.Columns.{RawLists, offset_column, view_column, column_kind, count_of, part_of, retyped}
 use Rattle.column_relayout.specs.Plans.{kind_after}
 
 -- The slots that light steps leave of the first ones: from which on, and how many.
@@ -27,3 +28,4 @@ cut_once column plan =
 -- The same lists with the flag of each slot, as it is read. Arrow columnar format, "Validity bitmaps".
 abbrev pub as_read : RawLists → RawLists
 as_read (offset_column large text lists) = offset_column large text (offset_lists lists.offsets lists.values (Some (flags_of (slot_count lists) lists.flags)))
+as_read (view_column text lists) = view_column text (view_lists lists.views lists.buffers (Some (flags_of (view_count lists) lists.flags)))

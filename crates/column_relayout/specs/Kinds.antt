@@ -4,7 +4,7 @@ use Rattle.column_base.specs.Integers.{greatest_offset}
 use Rattle.column_base.specs.Kinds.{ColumnKind}
 use Rattle.column_base.specs.Kinds as kinds
 use Rattle.column_relayout.specs.declared.kind.Kind.{Kind}
-use Rattle.column_relayout.specs.declared.kind.Kind.TheVariants.{Binary32, Binary64, Utf8_32, Utf8_64}
+use Rattle.column_relayout.specs.declared.kind.Kind.TheVariants.{Binary32, Binary64, Utf8_32, Utf8_64, BinView, Utf8View}
 
 -- the kind, as plain data
 abbrev pub kind_of : Kind → ColumnKind
@@ -12,6 +12,8 @@ kind_of Binary32 = kinds.Binary32
 kind_of Binary64 = kinds.Binary64
 kind_of Utf8_32 = kinds.Utf8_32
 kind_of Utf8_64 = kinds.Utf8_64
+kind_of BinView = kinds.BinView
+kind_of Utf8View = kinds.Utf8View
 
 -- the word for a kind: this library's own
 abbrev pub kind_name : ColumnKind → List ℕ
@@ -59,6 +61,17 @@ offset_kind false false = kinds.Binary32
 offset_kind false true = kinds.Utf8_32
 offset_kind true false = kinds.Binary64
 offset_kind true true = kinds.Utf8_64
+
+-- the kind of lists with views: of texts where the flag is true, and of byte strings else
+abbrev pub view_kind : Bool → ColumnKind
+view_kind false = kinds.BinView
+view_kind true = kinds.Utf8View
+
+-- Arrow columnar format, "Variable-size Binary View Layout": slots are told by views
+abbrev pub has_views : ColumnKind → Bool
+has_views kinds.BinView = true
+has_views kinds.Utf8View = true
+has_views kind = false
 
 -- Arrow columnar format, "Variable-size Binary Layout": the greatest offset of a kind, where it has offsets
 abbrev pub greatest_of : ColumnKind → Option ℕ

@@ -2,8 +2,9 @@
 
 ghost use Rattle.std.specs.Prelude.{◌≡◌, ◌+◌, ◌≤◌, length as list_length};
 
-use column_base::Offset;
+use column_base::{Offset, ViewKind};
 use column_binary::BinaryArray;
+use column_binview::BinaryViewArrayGeneric;
 use column_utf8::Utf8Array;
 
 /// Arrays that can be cut.
@@ -55,6 +56,25 @@ impl<O: Offset> Column for Utf8Array<O> {
     ghost use Rattle.column_relayout.specs.Columns.{offset_column};
 
     ghost raw = { λ array. offset_column O.IS_LARGE true array };
+
+    fn known(&self) {
+        self.known();
+    }
+
+    fn count(&self) -> usize {
+        self.len()
+    }
+
+    fn part(self, offset: usize, length: usize) -> Self {
+        self.sliced(offset, length)
+    }
+}
+
+#[tactic(auto, using(crate::proofs::ColumnsLemmas::columns))]
+impl<K: ViewKind> Column for BinaryViewArrayGeneric<K> {
+    ghost use Rattle.column_relayout.specs.Columns.{view_column};
+
+    ghost raw = { λ array. view_column K.IS_UTF8 array };
 
     fn known(&self) {
         self.known();

@@ -8,12 +8,15 @@ ghost use Rattle.column_relayout.specs.Arrays.{lists_of, lists_of_parts};
 use crate::columns::{AnyArray, RawColumn};
 use column_base::Cause;
 use column_binary::BinaryArray;
+use column_binview::{BinaryViewArray, Utf8ViewArray};
 use column_utf8::Utf8Array;
 
 /// The column of these parts, which are consumed. Takes no memory.
 ///
 /// The first fault that stands, in this order: `OffsetsEmpty`, `OffsetsNegative`, `OffsetsNotMonotone`,
-/// `OffsetsExceedValues`, of texts `InvalidUtf8` and `CharBoundary`, `ValidityLength`.
+/// `OffsetsExceedValues`, of texts `InvalidUtf8` and `CharBoundary`, `ValidityLength`. Of views the fault of the first that
+/// has one, and then `ValidityLength`: of a view that is not long `NonZeroPadding`, of a long one `ViewIndex`, `BufferSlice`
+/// and `PrefixMismatch`, and of texts then `InvalidUtf8`.
 pub fn assemble(parts: RawColumn) -> Result<AnyArray, Cause>
     ensures answer { let lists = lists_of_parts parts in GivesCause result (parts_fault lists) (λ column. (lists_of column ≡ lists) × IsWellFormed lists) }
 {
@@ -42,6 +45,18 @@ pub fn assemble(parts: RawColumn) -> Result<AnyArray, Cause>
             values,
             validity,
         } => AnyArray::Utf8_64(Utf8Array::try_from_parts(offsets, values, validity)?),
+        RawColumn::View {
+            text: false,
+            views,
+            buffers,
+            validity,
+        } => AnyArray::BinView(BinaryViewArray::try_from_parts(views, buffers, validity)?),
+        RawColumn::View {
+            text: true,
+            views,
+            buffers,
+            validity,
+        } => AnyArray::Utf8View(Utf8ViewArray::try_from_parts(views, buffers, validity)?),
     };
     column.known();
     Ok(column)

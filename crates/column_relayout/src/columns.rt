@@ -6,8 +6,10 @@ ghost use Rattle.column_relayout.specs.Arrays.{lists_of};
 use crate::arrays::Column;
 use column_base::Cause;
 use column_binary::BinaryArray;
-use column_storage::{Bitmap, Buffer};
+use column_binview::{BinaryViewArray, Utf8ViewArray};
+use column_storage::{Bitmap, Buffer, DataBuffers};
 use column_utf8::Utf8Array;
+use column_view::View;
 
 /// The raw lists of one column, of which nothing is known yet.
 #[derive(Drop)]
@@ -34,6 +36,17 @@ pub enum RawColumn {
         /// A flag for each slot, where true is valid.
         validity: Option<Bitmap>,
     },
+    /// Byte strings, or texts, by views. Arrow columnar format, "Variable-size Binary View Layout".
+    View {
+        /// Whether the slots are texts.
+        text: bool,
+        /// A view for each slot.
+        views: Buffer<View>,
+        /// The buffers that views name.
+        buffers: DataBuffers,
+        /// A flag for each slot, where true is valid.
+        validity: Option<Bitmap>,
+    },
 }
 
 /// A column of one of the kinds.
@@ -47,6 +60,10 @@ pub enum AnyArray {
     Utf8_32(Utf8Array<i32>),
     /// Texts with offsets of 64 bits.
     Utf8_64(Utf8Array<i64>),
+    /// Byte strings by views.
+    BinView(BinaryViewArray),
+    /// Texts by views.
+    Utf8View(Utf8ViewArray),
 }
 
 impl AnyArray {
@@ -59,6 +76,8 @@ impl AnyArray {
             AnyArray::Binary64(array) => Column::known(array),
             AnyArray::Utf8_32(array) => Column::known(array),
             AnyArray::Utf8_64(array) => Column::known(array),
+            AnyArray::BinView(array) => Column::known(array),
+            AnyArray::Utf8View(array) => Column::known(array),
         }
     }
 }

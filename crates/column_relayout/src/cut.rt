@@ -20,6 +20,8 @@ pub fn step_slice(column: AnyArray, offset: usize, length: usize) -> Result<AnyA
         AnyArray::Binary64(array) => Ok(AnyArray::Binary64(slice(array, offset, length)?)),
         AnyArray::Utf8_32(array) => Ok(AnyArray::Utf8_32(slice(array, offset, length)?)),
         AnyArray::Utf8_64(array) => Ok(AnyArray::Utf8_64(slice(array, offset, length)?)),
+        AnyArray::BinView(array) => Ok(AnyArray::BinView(slice(array, offset, length)?)),
+        AnyArray::Utf8View(array) => Ok(AnyArray::Utf8View(slice(array, offset, length)?)),
     }
 }
 
@@ -34,6 +36,8 @@ pub fn step_left(column: AnyArray, count: usize) -> Result<AnyArray, Cause>
         AnyArray::Binary64(array) => Ok(AnyArray::Binary64(left(array, count)?)),
         AnyArray::Utf8_32(array) => Ok(AnyArray::Utf8_32(left(array, count)?)),
         AnyArray::Utf8_64(array) => Ok(AnyArray::Utf8_64(left(array, count)?)),
+        AnyArray::BinView(array) => Ok(AnyArray::BinView(left(array, count)?)),
+        AnyArray::Utf8View(array) => Ok(AnyArray::Utf8View(left(array, count)?)),
     }
 }
 
@@ -48,6 +52,8 @@ pub fn step_right(column: AnyArray, count: usize) -> Result<AnyArray, Cause>
         AnyArray::Binary64(array) => Ok(AnyArray::Binary64(right(array, count)?)),
         AnyArray::Utf8_32(array) => Ok(AnyArray::Utf8_32(right(array, count)?)),
         AnyArray::Utf8_64(array) => Ok(AnyArray::Utf8_64(right(array, count)?)),
+        AnyArray::BinView(array) => Ok(AnyArray::BinView(right(array, count)?)),
+        AnyArray::Utf8View(array) => Ok(AnyArray::Utf8View(right(array, count)?)),
     }
 }
 

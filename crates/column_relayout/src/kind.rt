@@ -14,6 +14,10 @@ pub enum Kind {
     Utf8_32,
     /// Texts with offsets of 64 bits.
     Utf8_64,
+    /// Byte strings by views: "Variable-size Binary View Layout".
+    BinView,
+    /// Texts by views.
+    Utf8View,
 }
 
 impl Kind {
@@ -26,6 +30,8 @@ impl Kind {
             Kind::Binary64 => "binary64",
             Kind::Utf8_32 => "utf8_32",
             Kind::Utf8_64 => "utf8_64",
+            Kind::BinView => "binview",
+            Kind::Utf8View => "utf8view",
         }
     }
 }

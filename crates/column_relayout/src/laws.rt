@@ -5,7 +5,7 @@ ghost use Rattle.column_base.specs.Kinds.{Slot};
 ghost use Rattle.column_binary.specs.Slots.{offset_slots};
 ghost use Rattle.column_relayout.specs.declared.steps.Step.{Step};
 ghost use Rattle.column_relayout.specs.Kinds.{offset_kind};
-ghost use Rattle.column_relayout.specs.Columns.{RawLists, offset_column, column_kind, slots_of, parts_fault, IsWithinType, IsWellFormed};
+ghost use Rattle.column_relayout.specs.Columns.{RawLists, offset_column, column_kind, slots_of, parts_fault, IsWithinType, IsWellFormed, shared_bytes};
 ghost use Rattle.column_relayout.specs.Plans.{leads, plan_meaning, is_light, IsLight, light_lists};
 ghost use Rattle.column_relayout.specs.Steps.{StepsTo, Relays};
 ghost use Rattle.column_relayout.specs.Written.{written_lists};
@@ -35,9 +35,17 @@ pub fn light_plans_cut()
 /// which may stand or not. Read with the flag of each slot, lists have the same slots.
 #[tactic(auto, using(crate::proofs::CutsLemmas::light_cut, crate::proofs::ColumnsLemmas::as_read_slots))]
 pub fn light_plans_cut_once()
-    ensures cut { (parts column : RawLists) (plan : List Step) → parts_fault parts ≡ None → Relays parts plan column → IsLight plan
+    ensures cut { (parts column : RawLists) (plan : List Step) → IsWithinType parts → parts_fault parts ≡ None → Relays parts plan column → IsLight plan
         → as_read column ≡ as_read (cut_once parts plan) }
     ensures slots { (column : RawLists) → slots_of (as_read column) ≡ slots_of column }
+{}
+
+/// A light plan keeps the bytes that slots share whole: the value bytes of a column with offsets, the buffers of one with
+/// views.
+#[tactic(auto, using(crate::proofs::PlansLemmas::light_keeps))]
+pub fn light_plans_keep_bytes()
+    ensures { (parts column : RawLists) (plan : List Step) → Relays parts plan column → IsLight plan
+        → shared_bytes column ≡ shared_bytes parts }
 {}
 
 /// What the last step promises, it promises of some column before it.

@@ -23,8 +23,8 @@ pub use cut::{step_left, step_right, step_slice};
 pub use kind::Kind;
 pub use laws::{
     last_step_after_light_ones, last_step_is_taken, light_plans_cut, light_plans_cut_once,
-    light_steps_cut_what_a_step_left, light_steps_cut_what_was_written, no_fault_is_well_formed,
-    relays_lead, written_slots_are_same,
+    light_plans_keep_bytes, light_steps_cut_what_a_step_left, light_steps_cut_what_was_written,
+    no_fault_is_well_formed, relays_lead, written_slots_are_same,
 };
 pub use plan::relayout;
 pub use rebuild::step_rebuild;

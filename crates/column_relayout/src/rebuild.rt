@@ -22,7 +22,8 @@ use std::alloc::Global;
 /// The valid slots as they are, and null ones without bytes, in a column of the kind, whose lists are new. The column is
 /// consumed.
 ///
-/// `WrongKind` where the kind is one of texts and the column is not, and else `Overflow` where the bytes of the valid
+/// `WrongKind` where the kind or the column has views, which are neither written nor rewritten yet, and where the kind is
+/// one of texts and the column is not; and else `Overflow` where the bytes of the valid
 /// slots together pass the kind's greatest offset. `NoMemory` where there is none for the lists, and never where there
 /// is a cause.
 #[tactic(auto, using(crate::proofs::StepsLemmas::rebuild_faults))]
@@ -34,6 +35,8 @@ pub fn step_rebuild(alloc: Global, column: AnyArray, kind: Kind) -> Result<AnyAr
         AnyArray::Binary64(array) => rebuild_bytes(alloc, array, kind),
         AnyArray::Utf8_32(array) => rebuild_texts(alloc, array, kind),
         AnyArray::Utf8_64(array) => rebuild_texts(alloc, array, kind),
+        AnyArray::BinView(_) => Err(Cause::WrongKind.into()),
+        AnyArray::Utf8View(_) => Err(Cause::WrongKind.into()),
     }
 }
 
@@ -48,10 +51,13 @@ fn rebuild_bytes<O: Offset>(
     match kind {
         Kind::Binary32 => Ok(AnyArray::Binary32(bytes_to_bytes(alloc, array, kind)?)),
         Kind::Binary64 => Ok(AnyArray::Binary64(bytes_to_bytes(alloc, array, kind)?)),
-        Kind::Utf8_32 | Kind::Utf8_64 => Err(Cause::WrongKind.into()),
+        Kind::Utf8_32 | Kind::Utf8_64 | Kind::BinView | Kind::Utf8View => {
+            Err(Cause::WrongKind.into())
+        }
     }
 }
 
+#[tactic(auto, using(crate::proofs::StepsLemmas::rebuild_faults))]
 fn rebuild_texts<O: Offset>(
     alloc: Global,
     array: Utf8Array<O>,
@@ -64,6 +70,7 @@ fn rebuild_texts<O: Offset>(
         Kind::Binary64 => Ok(AnyArray::Binary64(texts_to_bytes(alloc, array, kind)?)),
         Kind::Utf8_32 => Ok(AnyArray::Utf8_32(texts_to_texts(alloc, array, kind)?)),
         Kind::Utf8_64 => Ok(AnyArray::Utf8_64(texts_to_texts(alloc, array, kind)?)),
+        Kind::BinView | Kind::Utf8View => Err(Cause::WrongKind.into()),
     }
 }
 

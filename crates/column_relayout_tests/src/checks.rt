@@ -16,6 +16,8 @@ pub fn words_are() -> bool {
         && Kind::Binary64.name() == "binary64"
         && Kind::Utf8_32.name() == "utf8_32"
         && Kind::Utf8_64.name() == "utf8_64"
+        && Kind::BinView.name() == "binview"
+        && Kind::Utf8View.name() == "utf8view"
 }
 
 // ---- lists
@@ -27,12 +29,14 @@ fn wide_are(offsets: &[i64], wanted: &[i32]) -> bool {
         .eq(wanted.iter().map(|offset| i64::from(*offset)))
 }
 
-fn kind_of(column: &AnyArray) -> Kind {
+pub fn kind_of(column: &AnyArray) -> Kind {
     match column {
         AnyArray::Binary32(_) => Kind::Binary32,
         AnyArray::Binary64(_) => Kind::Binary64,
         AnyArray::Utf8_32(_) => Kind::Utf8_32,
         AnyArray::Utf8_64(_) => Kind::Utf8_64,
+        AnyArray::BinView(_) => Kind::BinView,
+        AnyArray::Utf8View(_) => Kind::Utf8View,
     }
 }
 
@@ -42,6 +46,7 @@ fn offsets_are(column: &AnyArray, wanted: &[i32]) -> bool {
         AnyArray::Binary64(array) => wide_are(array.offsets().as_slice(), wanted),
         AnyArray::Utf8_32(array) => array.offsets().as_slice() == wanted,
         AnyArray::Utf8_64(array) => wide_are(array.offsets().as_slice(), wanted),
+        AnyArray::BinView(_) | AnyArray::Utf8View(_) => false,
     }
 }
 
@@ -51,6 +56,7 @@ fn values_of(column: &AnyArray) -> &[u8] {
         AnyArray::Binary64(array) => array.values().as_slice(),
         AnyArray::Utf8_32(array) => array.values().as_slice(),
         AnyArray::Utf8_64(array) => array.values().as_slice(),
+        AnyArray::BinView(_) | AnyArray::Utf8View(_) => &[],
     }
 }
 
@@ -60,6 +66,8 @@ fn validity_of(column: &AnyArray) -> Option<&Bitmap> {
         AnyArray::Binary64(array) => array.validity(),
         AnyArray::Utf8_32(array) => array.validity(),
         AnyArray::Utf8_64(array) => array.validity(),
+        AnyArray::BinView(array) => array.validity(),
+        AnyArray::Utf8View(array) => array.validity(),
     }
 }
 

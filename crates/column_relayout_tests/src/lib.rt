@@ -9,3 +9,5 @@ mod cases;
 mod checks;
 #[cfg(test)]
 mod tests;
+#[cfg(test)]
+mod views;

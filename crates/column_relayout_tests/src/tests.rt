@@ -9,13 +9,14 @@ use crate::checks::{
     all_are_told, all_convert, all_cut, all_pass, both_lead, both_refuse, calls_are, first_steps,
     wide_is_told, words_are,
 };
+use crate::views::{no_views_are_rebuilt, views_are_cut, views_lead, views_refuse};
 use column_base::Cause;
 use column_checks::Flags;
-use column_relayout::Step::{Left, Right, Slice, ToBinary, ToUtf8};
+use column_relayout::Step::{Append, Left, Rebuild, Right, Slice, ToBinary, ToUtf8};
 use column_relayout::{
-    Kind, Step, last_step_after_light_ones, last_step_is_taken, light_plans_cut,
-    light_plans_cut_once, light_steps_cut_what_a_step_left, light_steps_cut_what_was_written,
-    no_fault_is_well_formed, relays_lead, written_slots_are_same,
+    Kind, Rows, Step, last_step_after_light_ones, last_step_is_taken, light_plans_cut,
+    light_plans_cut_once, light_plans_keep_bytes, light_steps_cut_what_a_step_left,
+    light_steps_cut_what_was_written, no_fault_is_well_formed, relays_lead, written_slots_are_same,
 };
 use std::test::Fail;
 
@@ -26,6 +27,7 @@ fn kinds_have_words(rt: HostRuntime) {
     relays_lead();
     light_plans_cut();
     light_plans_cut_once();
+    light_plans_keep_bytes();
     last_step_is_taken();
     last_step_after_light_ones();
     light_steps_cut_what_a_step_left();
@@ -511,5 +513,46 @@ fn columns_are_rebuilt(rt: HostRuntime) -> Result<(), Fail> {
 #[test]
 fn plans_write_anew(rt: HostRuntime) -> Result<(), Fail> {
     assert!(rt; plan_writes(rt.alloc(), false)? && plan_writes(rt.alloc(), true)?);
+    Ok(())
+}
+
+#[test]
+fn plans_keep_the_buffers_of_views(rt: HostRuntime) -> Result<(), Fail> {
+    let plans: [(&[Step], bool, usize, usize); 7] = [
+        (&[], false, 0, 3),
+        (&[Slice(1, 2)], false, 1, 2),
+        (&[Left(2)], false, 0, 2),
+        (&[Right(3)], false, 3, 0),
+        (&[ToUtf8], true, 0, 3),
+        (&[ToUtf8, Slice(0, 2), ToBinary], false, 0, 2),
+        (&[Right(1), ToUtf8, Left(1)], true, 1, 1),
+    ];
+    for (plan, text, from, count) in plans {
+        let kind = if text { Kind::Utf8View } else { Kind::BinView };
+        assert!(rt;
+            views_lead(rt.alloc(), false, plan, kind, from, count)?,
+            "{from} {count}"
+        );
+    }
+    assert!(rt; views_lead(rt.alloc(), true, &[ToBinary, Left(1)], Kind::BinView, 0, 1)?);
+    assert!(rt; views_are_cut(rt.alloc(), false, Kind::BinView)?);
+    assert!(rt; views_are_cut(rt.alloc(), true, Kind::Utf8View)?);
+    Ok(())
+}
+
+#[test]
+fn views_are_not_written_yet(rt: HostRuntime) -> Result<(), Fail> {
+    for text in [false, true] {
+        assert!(rt; views_refuse(rt.alloc(), text, &[Append(Rows::new(rt.alloc()))])?);
+        assert!(rt; views_refuse(rt.alloc(), text, &[Rebuild(Kind::Binary32)])?);
+        assert!(rt; views_refuse(rt.alloc(), text, &[Rebuild(Kind::Utf8View)])?);
+    }
+    assert!(rt; views_refuse(rt.alloc(), true, &[ToUtf8])?);
+    assert!(rt; views_refuse(rt.alloc(), false, &[ToBinary])?);
+    assert!(rt; no_views_are_rebuilt(rt.alloc(), false, true, three(), &[Rebuild(Kind::BinView)])?);
+    assert!(rt; no_views_are_rebuilt(rt.alloc(), true, true, three(), &[Rebuild(Kind::Utf8View)])?);
+    assert!(rt;
+        no_views_are_rebuilt(rt.alloc(), true, false, three(), &[Rebuild(Kind::Utf8View)])?
+    );
     Ok(())
 }
