@@ -5,9 +5,9 @@ use Rattle.std.specs.Str.{bytes_eq}
 use Rattle.serde_json.specs.Data.{Data, null}
 use Rattle.serde_json.specs.Find.{get, as_bool, as_str}
 use Rattle.column_relayout.specs.declared.columns.RawColumn.{RawColumn}
-use Rattle.column_relayout.specs.declared.columns.RawColumn.TheVariants.{Offset32, Offset64}
+use Rattle.column_relayout.specs.declared.columns.RawColumn.TheVariants.{Offset32, Offset64, View}
 use Rattle.column_relayout.specs.declared.kind.Kind.{Kind}
-use Rattle.column_relayout.specs.declared.kind.Kind.TheVariants.{Binary32, Binary64, Utf8_32, Utf8_64}
+use Rattle.column_relayout.specs.declared.kind.Kind.TheVariants.{Binary32, Binary64, Utf8_32, Utf8_64, BinView, Utf8View}
 use Rattle.column_relayout.specs.declared.steps.Step.{Step}
 use Rattle.column_relayout.specs.Kinds.{kind_of, kind_name}
 use Rattle.column_document.specs.declared.field.Field.{Field}
@@ -20,7 +20,7 @@ use Rattle.column_document.specs.declared.from_json.Unread.{Unread}
 use Rattle.column_document.specs.declared.from_json.Unread.TheVariants as unread
 use Rattle.column_document.specs.Fields.{field_name}
 use Rattle.column_document.specs.Json.{json_of}
-use Rattle.column_document.specs.Values.{list_of, i32_of, i64_of, hex_of}
+use Rattle.column_document.specs.Values.{list_of, i32_of, i64_of, hex_of, view_of, buffers_of}
 use Rattle.column_document.specs.Steps.{step_of}
 use Rattle.column_document.specs.Unbuilt.{has_unbuilt_word}
 
@@ -55,7 +55,7 @@ needed field of document = ok_or (option_and_then of (get (field_name field) doc
 
 -- `kind`: the name of a kind that is built
 abbrev pub kind_named : List ℕ → Option Kind
-kind_named word = find (λ kind. bytes_eq word (kind_name (kind_of kind))) (Binary32 ∷ Binary64 ∷ Utf8_32 ∷ Utf8_64 ∷ [])
+kind_named word = find (λ kind. bytes_eq word (kind_name (kind_of kind))) (Binary32 ∷ Binary64 ∷ Utf8_32 ∷ Utf8_64 ∷ BinView ∷ Utf8View ∷ [])
 
 -- a JSON string that is such a name
 abbrev pub kind_from : Data → Option Kind
@@ -90,12 +90,22 @@ offset_parts number made document = do
   validity ← validity_of document
   Ok (made offsets values validity)
 
--- the fields that a kind has, as its parts: numbers of 32 or 64 bits by the kind, of byte strings or of texts
+-- parts with views, of texts where the flag is true: `views`, `buffers` and `validity`
+abbrev pub view_parts : Bool → Data → Result RawColumn DocFault
+view_parts text document = do
+  views ← needed field.Views (list_of view_of) document
+  buffers ← needed field.Buffers buffers_of document
+  validity ← validity_of document
+  Ok (View text views buffers validity)
+
+-- the fields that a kind has, as its parts: numbers of 32 or 64 bits, or views, of byte strings or of texts
 abbrev pub parts_of : Kind → Data → Result RawColumn DocFault
 parts_of Binary32 document = offset_parts i32_of (Offset32 false) document
 parts_of Binary64 document = offset_parts i64_of (Offset64 false) document
 parts_of Utf8_32 document = offset_parts i32_of (Offset32 true) document
 parts_of Utf8_64 document = offset_parts i64_of (Offset64 true) document
+parts_of BinView document = view_parts false document
+parts_of Utf8View document = view_parts true document
 
 -- raw parts of a column, and the steps to take
 pub record Document : Type 0 where

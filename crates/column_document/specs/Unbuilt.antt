@@ -9,9 +9,7 @@ use Rattle.serde_json.specs.Find.{get, at, as_str, as_array}
 
 -- a kind of column that is not built yet
 abbrev pub is_unbuilt_kind : List ℕ → Bool
-is_unbuilt_kind word =
-    bytes_eq word (codes "fixed") || bytes_eq word (codes "int64") || bytes_eq word (codes "binview")
-    || bytes_eq word (codes "utf8view")
+is_unbuilt_kind word = bytes_eq word (codes "fixed") || bytes_eq word (codes "int64")
 
 -- a step that is not built yet
 abbrev pub is_unbuilt_step : List ℕ → Bool

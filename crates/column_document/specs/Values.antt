@@ -1,9 +1,10 @@
 -- What single JSON values stand for in a document: this library's own.
-use Rattle.std.specs.Prelude.{◌≡◌, ℕ, ℤ, pos, negsuc, Bool, ◌&&◌, if◌then◌else◌, int_le, List, [], ◌∷◌, Option, None, Some, Result, Ok, Err, ⊤}
+use Rattle.std.specs.Prelude.{◌≡◌, ℕ, nat_le, ℤ, pos, negsuc, Bool, ◌&&◌, if◌then◌else◌, int_le, List, length, [], ◌∷◌, Option, None, Some, Result, Ok, Err, ⊤}
 use Rattle.std.specs.Result.{result_ok}
-use Rattle.hex.specs.Hex.{decode_of}
+use Rattle.hex.specs.Hex.{decode_of, decode_sized}
 use Rattle.serde_json.specs.Data.{Data, Items, no_items, item}
 use Rattle.serde_json.specs.Find.{as_str, as_number, as_array, as_i64, as_u64}
+use Rattle.column_storage.specs.declared.data_buffers.TheConstants.{MAX_BUFFERS}
 use Rattle.column_document.specs.declared.from_json.Unread.{Unread}
 use Rattle.column_document.specs.declared.from_json.Unread.TheVariants.{NoMemory, Bad}
 
@@ -60,3 +61,17 @@ bytes_of text = result_ok (decode_of text)
 -- a JSON string of such digits
 abbrev pub hex_of : Data → Option (List ℕ)
 hex_of value = as_str value >>= bytes_of
+
+-- a view: a JSON string of the 32 digits of its 16 bytes
+abbrev pub view_of : Data → Option (List ℕ)
+view_of value = do
+  text ← as_str value
+  result_ok (decode_sized text 16)
+
+-- no more buffers than the library has a limit for
+abbrev pub few_buffers : List (List ℕ) → Option (List (List ℕ))
+few_buffers buffers = if nat_le (length buffers) MAX_BUFFERS then Some buffers else None
+
+-- an array of so many JSON strings of digits
+abbrev pub buffers_of : Data → Option (List (List ℕ))
+buffers_of value = list_of hex_of value >>= few_buffers

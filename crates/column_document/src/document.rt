@@ -2,7 +2,7 @@
 
 ghost use Rattle.std.specs.Prelude.{◌≡◌, ◌≢◌};
 ghost use Rattle.serde_json.specs.View.{view};
-ghost use Rattle.column_document.specs.Document.{ReadsFields, ReadsFieldsAs, error_at, needed, kind_from, validity_of, plan_of, parts_of, offset_parts, document, document_of, document_in};
+ghost use Rattle.column_document.specs.Document.{ReadsFields, ReadsFieldsAs, error_at, needed, kind_from, validity_of, plan_of, parts_of, offset_parts, view_parts, document, document_of, document_in};
 
 use crate::field::{DocError, DocFault, Field};
 use crate::from_json::{FromJson, Unread, read_list};
@@ -32,9 +32,11 @@ pub fn parse_document(alloc: Global, bytes: Vec<u8>) -> Result<(RawColumn, Vec<S
 /// The raw parts and the plan of a document.
 ///
 /// The fields, in the order in which they are read; other fields are ignored:
-/// - `kind`: `binary32`, `binary64`, `utf8_32` or `utf8_64`; the last two give texts.
-/// - `offsets`: whole numbers, within `i32` or `i64` by the kind.
-/// - `values`: bytes, as hexadecimal digits in pairs, in either case.
+/// - `kind`: `binary32`, `binary64`, `utf8_32`, `utf8_64`, `binview` or `utf8view`; the kinds with `utf8` give texts.
+/// - `offsets`, of a kind with offsets: whole numbers, within `i32` or `i64` by the kind.
+/// - `values`, of a kind with offsets: bytes, as hexadecimal digits in pairs, in either case.
+/// - `views`, of a kind with views: texts of 32 hexadecimal digits, the 16 bytes of a view.
+/// - `buffers`, of a kind with views: at most 2,147,483,647 texts of hexadecimal digits in pairs.
 /// - `validity`: missing, null, or a flag for each slot, where true is valid.
 /// - `plan`: missing, or steps: `["slice", first, count]`, `["left", count]`, `["right", first]`, `["to_utf8"]` and
 ///   `["to_binary"]`. The numbers count slots, and are whole numbers from 0 to 2^64 - 1.
@@ -66,7 +68,24 @@ fn read_parts(alloc: Global, document: &Value, kind: Kind) -> Result<RawColumn, 
         Kind::Binary64 => read_offset_parts::<i64>(alloc, document, false),
         Kind::Utf8_32 => read_offset_parts::<i32>(alloc, document, true),
         Kind::Utf8_64 => read_offset_parts::<i64>(alloc, document, true),
+        Kind::BinView => read_view_parts(alloc, document, false),
+        Kind::Utf8View => read_view_parts(alloc, document, true),
     }
+}
+
+/// The parts of a kind with views.
+fn read_view_parts(alloc: Global, document: &Value, text: bool) -> Result<RawColumn, DocError>
+    ensures { ReadsFields result (view_parts text (view document.now)) }
+{
+    let views = needed(alloc, document, Field::Views)?;
+    let buffers = needed(alloc, document, Field::Buffers)?;
+    let validity = read_validity(alloc, document)?;
+    Ok(RawColumn::View {
+        text,
+        views,
+        buffers,
+        validity,
+    })
 }
 
 /// The parts of a kind with offsets.
@@ -141,6 +160,8 @@ impl FromJson for Kind {
             Some("binary64") => Ok(Kind::Binary64),
             Some("utf8_32") => Ok(Kind::Utf8_32),
             Some("utf8_64") => Ok(Kind::Utf8_64),
+            Some("binview") => Ok(Kind::BinView),
+            Some("utf8view") => Ok(Kind::Utf8View),
             _ => Err(Unread::Bad),
         }
     }

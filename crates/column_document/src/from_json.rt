@@ -1,11 +1,14 @@
 //! What single JSON values stand for: numbers, flags, bytes, and lists of them.
 
 ghost use Rattle.std.specs.Prelude.{◌≡◌, List, Option, None, Some};
+ghost use Rattle.std.specs.Result.{result_ok};
+ghost use Rattle.hex.specs.Hex.{decode_sized};
 ghost use Rattle.serde_json.specs.Data.{Data};
 ghost use Rattle.serde_json.specs.View.{view, items_view};
-ghost use Rattle.column_document.specs.Values.{Reads, ReadsAs, each, list_of, is_i32, i32_of, i64_of, u64_of, bytes_of, hex_of};
+ghost use Rattle.column_document.specs.Values.{Reads, ReadsAs, each, list_of, is_i32, i32_of, i64_of, u64_of, bytes_of, hex_of, view_of, few_buffers, buffers_of};
 
-use column_storage::{Bitmap, Buffer};
+use column_storage::{Bitmap, Buffer, DataBuffers, MAX_BUFFERS};
+use column_view::View;
 use hex::FromHexError;
 use serde_json::Value;
 use std::alloc::{AllocError, AllocFailed, Global};
@@ -168,5 +171,47 @@ impl FromJson for Bitmap {
 
     fn from_json(alloc: Global, value: &Value) -> Result<Bitmap, Unread> {
         to_bitmap(alloc, read_list(alloc, value)?)
+    }
+}
+
+impl FromJson for View {
+    ghost of = { view_of };
+
+    fn from_json(_alloc: Global, value: &Value) -> Result<View, Unread> {
+        match value.as_str() {
+            Some(text) => read_view(text),
+            None => Err(Unread::Bad),
+        }
+    }
+}
+
+/// The view of 16 bytes that a text of hexadecimal digits spells.
+fn read_view(text: &str) -> Result<View, Unread>
+    ensures { Reads result (result_ok (decode_sized text.now 16)) }
+{
+    let mut bytes = [0; 16];
+    match hex::decode_to_slice(text, &mut bytes) {
+        Ok(()) => Ok(View::from_le(bytes)),
+        Err(_) => Err(Unread::Bad),
+    }
+}
+
+impl FromJson for DataBuffers {
+    ghost of = { buffers_of };
+
+    fn from_json(alloc: Global, value: &Value) -> Result<DataBuffers, Unread> {
+        to_buffers(alloc, read_list(alloc, value)?)
+    }
+}
+
+fn to_buffers(alloc: Global, buffers: Vec<Buffer<u8>>) -> Result<DataBuffers, Unread>
+    ensures { Reads result (few_buffers buffers.items) }
+{
+    if buffers.len() > MAX_BUFFERS {
+        return Err(Unread::Bad);
+    }
+    match DataBuffers::from_vec(alloc, buffers) {
+        Ok(buffers) => Ok(buffers),
+        Err(_) => Err(Unread::NoMemory),
     }
 }

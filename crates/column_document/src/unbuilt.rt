@@ -58,7 +58,7 @@ fn is_unbuilt_element(element: &Value) -> bool
 fn is_unbuilt_kind(word: &str) -> bool
     ensures { result ≡ is_unbuilt_kind word.now }
 {
-    matches!(word, "fixed" | "int64" | "binview" | "utf8view")
+    matches!(word, "fixed" | "int64")
 }
 
 fn is_unbuilt_step(word: &str) -> bool

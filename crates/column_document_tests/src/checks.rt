@@ -3,8 +3,13 @@
 use column_document::{DocError, DocFault, Field, parse_document, read_document};
 use column_relayout::{RawColumn, Step};
 use column_storage::{Bitmap, Buffer};
+use column_view::View;
 use serde_json::Value;
 use std::alloc::{AllocError, Global};
+
+const VIEW: [u8; 16] = [
+    0, 1, 2, 3, 0xff, 0xfe, 0xfd, 0xfc, 8, 9, 10, 11, 12, 13, 14, 15,
+];
 
 type Read = Result<(RawColumn, Vec<Step>), DocError>;
 
@@ -122,7 +127,7 @@ fn short_parts_are(parts: &RawColumn, texts: bool) -> bool {
                 && offsets.as_slice() == [i32::MIN, 0, i32::MAX].as_slice()
                 && has_bytes_and_flags(values, validity)
         }
-        RawColumn::Offset64 { .. } => false,
+        _ => false,
     }
 }
 
@@ -138,7 +143,7 @@ fn long_parts_are(parts: &RawColumn, texts: bool) -> bool {
                 && offsets.as_slice() == [i64::MIN, 2_147_483_648, i64::MAX].as_slice()
                 && has_bytes_and_flags(values, validity)
         }
-        RawColumn::Offset32 { .. } => false,
+        _ => false,
     }
 }
 
@@ -166,11 +171,42 @@ pub fn long_document_is_read(alloc: Global, kind: &str, texts: bool) -> Result<b
     })
 }
 
+fn view_parts_are(parts: &RawColumn, texts: bool) -> bool {
+    match parts {
+        RawColumn::View {
+            text,
+            views,
+            buffers,
+            validity,
+        } => {
+            *text == texts
+                && views.as_slice() == [View::from_le(VIEW)].as_slice()
+                && buffers.len() == 2
+                && buffers.get(0).as_slice() == [0x61, 0xff].as_slice()
+                && buffers.get(1).is_empty()
+                && validity.is_none()
+        }
+        _ => false,
+    }
+}
+
+/// A view, a buffer of two bytes, an empty one, and a plan of one step.
+pub fn view_document_is_read(alloc: Global, kind: &str, texts: bool) -> Result<bool, AllocError> {
+    let document = format!(in alloc;
+        r#"{{"buffers":["61fF",""],"views":["00010203ffFEFdfc08090a0b0c0d0e0f"],"validity":null,
+        "plan":[["to_utf8"]],"offsets":7,"kind":"{kind}"}}"#
+    )?;
+    Ok(match parsed(alloc, document.as_bytes()) {
+        Ok((parts, plan)) => are_steps(&plan, &[Step::ToUtf8]) && view_parts_are(&parts, texts),
+        Err(_) => false,
+    })
+}
+
 fn has_no_flags(parts: &RawColumn) -> bool {
     match parts {
-        RawColumn::Offset32 { validity, .. } | RawColumn::Offset64 { validity, .. } => {
-            validity.is_none()
-        }
+        RawColumn::Offset32 { validity, .. }
+        | RawColumn::Offset64 { validity, .. }
+        | RawColumn::View { validity, .. } => validity.is_none(),
     }
 }
 

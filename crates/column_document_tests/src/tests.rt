@@ -3,6 +3,7 @@
 use crate::checks::{
     fault_is, field_is_named, long_document_is_read, no_flags_are_none,
     no_flags_are_none_in_the_value, offset_fits, plan_is, plan_is_bad, short_document_is_read,
+    view_document_is_read,
 };
 use column_document::{DocFault, Field};
 use column_relayout::Step;
@@ -10,7 +11,7 @@ use std::test::Fail;
 
 #[test]
 fn the_first_fault_is_told(rt: HostRuntime) {
-    let table: [(&[u8], DocFault); 15] = [
+    let table: [(&[u8], DocFault); 23] = [
         (b"{", DocFault::Json),
         (b"", DocFault::Json),
         (b"\xff", DocFault::Json),
@@ -19,6 +20,35 @@ fn the_first_fault_is_told(rt: HostRuntime) {
         (b"[]", DocFault::BadField(Field::Kind)),
         (br#"{"kind":"binary33"}"#, DocFault::BadField(Field::Kind)),
         (br#"{"kind":"Utf8_32"}"#, DocFault::BadField(Field::Kind)),
+        (br#"{"kind":"binview"}"#, DocFault::BadField(Field::Views)),
+        (
+            br#"{"kind":"utf8view","views":"","buffers":[]}"#,
+            DocFault::BadField(Field::Views),
+        ),
+        (
+            br#"{"kind":"binview","views":["000000000000000000000000000000000"],"buffers":1}"#,
+            DocFault::BadField(Field::Views),
+        ),
+        (
+            br#"{"kind":"binview","views":["0000000000000000000000000000000g"],"buffers":[]}"#,
+            DocFault::BadField(Field::Views),
+        ),
+        (
+            br#"{"kind":"binview","views":[null],"buffers":[]}"#,
+            DocFault::BadField(Field::Views),
+        ),
+        (
+            br#"{"kind":"utf8view","views":["00000000000000000000000000000000"]}"#,
+            DocFault::BadField(Field::Buffers),
+        ),
+        (
+            br#"{"kind":"utf8view","views":[],"buffers":["00","0"],"validity":1}"#,
+            DocFault::BadField(Field::Buffers),
+        ),
+        (
+            br#"{"kind":"utf8view","views":[],"buffers":[],"validity":1}"#,
+            DocFault::BadField(Field::Validity),
+        ),
         (
             br#"{"kind":"fixed","kind":"utf8_64"}"#,
             DocFault::BadField(Field::Offsets),
@@ -58,8 +88,8 @@ fn words_that_are_not_built_come_first(rt: HostRuntime) {
     let table: [&[u8]; 9] = [
         br#"{"kind":"fixed"}"#,
         br#"{"kind":"int64","offsets":[1.5]}"#,
-        br#"{"kind":"binview","plan":null}"#,
-        br#"{"kind":"utf8view","plan":[["turn"]]}"#,
+        br#"{"kind":"fixed","plan":null}"#,
+        br#"{"kind":"int64","plan":[["turn"]]}"#,
         br#"{"plan":[["gc"]]}"#,
         br#"{"kind":7,"plan":[7,["turn"],["dedupe",1,2]]}"#,
         br#"{"kind":"binary64","offsets":[9223372036854775808],"plan":[["append"]]}"#,
@@ -168,6 +198,8 @@ fn a_document_of_each_kind_gives_its_lists(rt: HostRuntime) -> Result<(), Fail> 
     assert!(rt; short_document_is_read(rt.alloc(), "utf8_32", true)?);
     assert!(rt; long_document_is_read(rt.alloc(), "binary64", false)?);
     assert!(rt; long_document_is_read(rt.alloc(), "utf8_64", true)?);
+    assert!(rt; view_document_is_read(rt.alloc(), "binview", false)?);
+    assert!(rt; view_document_is_read(rt.alloc(), "utf8view", true)?);
     Ok(())
 }
 
