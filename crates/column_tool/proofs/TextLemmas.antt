@@ -6,7 +6,7 @@ use Rattle.std.proofs.lemmas.List.Concat.{flat_map-append}
 use Rattle.std.proofs.lemmas.List.Folds.{flat_map-map}
 use Rattle.column_base.specs.Kinds.{Slot}
 use Rattle.column_base.specs.Slots.{slot_at}
-use Rattle.column_tool.specs.Text.{slot_line, after_comma}
+use Rattle.column_tool.specs.Text.{slot_line, after_comma, named_line}
 
 line_more : {X : Type 0} (f : X → List ℕ) (xs : List X) (i : ℕ) (d : X) → i < length xs → flat_map f (take (i + 1) xs) ≡ flat_map f (take i xs) ++ f (get_or xs i d)
 line_more f xs i d within =
@@ -24,3 +24,7 @@ next_number {X = X} int xs i x within is =
     ∙ line_more (λ (y : X). after_comma (int y)) xs i x within
     ∙ ap (λ (y : X). flat_map (λ (z : X). after_comma (int z)) (take i xs) ++ after_comma (int y)) (sym is)
     ∙ ap (λ (text : List ℕ). text ++ after_comma (int x)) (sym (flat_map-map after_comma int (take i xs)))
+
+-- a further list under its name
+pub next_named : (name : List ℕ) (lists : List (List ℕ)) (i : ℕ) (bytes : List ℕ) → i < length lists → bytes ≡ get_or lists i bytes → flat_map (named_line name) (take (i + 1) lists) ≡ flat_map (named_line name) (take i lists) ++ named_line name bytes
+next_named name lists i bytes within is = line_more (named_line name) lists i bytes within ∙ ap (λ (line : List ℕ). flat_map (named_line name) (take i lists) ++ named_line name line) (sym is)

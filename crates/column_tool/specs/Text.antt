@@ -12,7 +12,8 @@ use Rattle.column_document.specs.declared.field.DocFault.TheVariants.{Json, BadF
 use Rattle.column_document.specs.Fields.{field_name}
 use Rattle.column_relayout.specs.Kinds.{kind_name}
 use Rattle.column_binary.specs.Slots.{OffsetLists}
-use Rattle.column_relayout.specs.Columns.{RawLists, offset_column, column_kind, slots_of}
+use Rattle.column_binview.specs.Slots.{ViewLists}
+use Rattle.column_relayout.specs.Columns.{RawLists, offset_column, view_column, column_kind, slots_of}
 
 -- ---- a column
 
@@ -42,9 +43,18 @@ numbers_text (n ∷ ns) = signed_decimal n ++ flat_map after_comma ns
 abbrev pub offset_text : OffsetLists → List ℕ
 offset_text lists = codes "offsets=" ++ numbers_text lists.offsets ++ codes "\nvalues=" ++ encode_lower lists.values ++ codes "\n"
 
+-- a list of bytes under its name
+abbrev pub named_line : List ℕ → List ℕ → List ℕ
+named_line name bytes = name ++ encode_lower bytes ++ codes "\n"
+
+-- the lists of a column with views: each view, and each buffer
+abbrev pub view_text : ViewLists → List ℕ
+view_text lists = flat_map (named_line (codes "view=")) lists.views ++ flat_map (named_line (codes "buffer=")) lists.buffers
+
 -- the lists of a column
 abbrev pub lists_text : RawLists → List ℕ
 lists_text (offset_column large text lists) = offset_text lists
+lists_text (view_column text lists) = view_text lists
 
 -- a column whole
 unfoldable pub printed : RawLists → List ℕ

@@ -1,21 +1,26 @@
 //! The printed text of a column, of a refusal, and of the fault of a document.
 
-ghost use Rattle.std.specs.Prelude.{◌≡◌, ◌≢◌, ◌++◌, IfOk, OnOk, decimal, None, map, codes};
+ghost use Rattle.std.specs.Prelude.{◌≡◌, ◌≢◌, ◌<◌, ◌++◌, length as list_length, IfOk, OnOk, decimal, None, map, codes};
 ghost use Rattle.std.specs.List.{flat_map};
 ghost use Rattle.std.specs.Fmt.{signed_decimal};
 ghost use Rattle.hex.specs.Hex.{encode_lower};
 ghost use Rattle.column_base.specs.Answers.{Answers};
 ghost use Rattle.column_base.specs.Kinds.{ColumnKind};
+ghost use Rattle.column_base.specs.Slots.{slot_at};
+ghost use Rattle.column_binview.specs.Slots.{view_slots};
 ghost use Rattle.column_relayout.specs.Kinds.{kind_of};
 ghost use Rattle.column_binary.specs.Slots.{offset_slots};
 ghost use Rattle.column_relayout.specs.Arrays.{lists_of};
 ghost use Rattle.column_base.specs.Errors.{name_of};
-ghost use Rattle.column_tool.specs.Text.{printed, printed_head, slot_line, sign_of, after_comma, numbers_text, offset_text, refusal_line, fault_line};
+ghost use Rattle.column_tool.specs.Text.{printed, printed_head, slot_line, sign_of, after_comma, numbers_text, offset_text, named_line, view_text, refusal_line, fault_line};
 
-use column_base::{Cause, Offset, PolarsError};
+use column_base::{Cause, Offset, PolarsError, ViewKind};
 use column_binary::BinaryArray;
+use column_binview::BinaryViewArrayGeneric;
 use column_document::DocFault;
 use column_relayout::{AnyArray, ColumnError, Kind};
+use column_storage::DataBuffers;
+use column_view::View;
 use itoa::Integer;
 use std::alloc::{AllocError, Global};
 
@@ -66,16 +71,70 @@ fn append_slot(
     Ok(())
 }
 
+/// Arrays as their slots are printed.
+trait Slotted {
+    ghost use Rattle.std.specs.Prelude.{List};
+    ghost use Rattle.column_base.specs.Kinds.{Slot};
+
+    ghost slots: { Self → List Slot };
+
+    /// The number of slots.
+    fn count(&self) -> usize
+        ensures { result ≡ list_length (slots self.now) };
+
+    /// Whether slot `i` is valid.
+    fn is_valid_at(&self, i: usize) -> bool
+        requires { i < list_length (slots self.now) }
+        ensures { result ≡ (slot_at (slots self.now) i).valid };
+
+    /// The bytes of slot `i`; a null slot has bytes too.
+    fn bytes_at(&self, i: usize) -> &[u8]
+        requires { i < list_length (slots self.now) }
+        ensures { result.now ≡ (slot_at (slots self.now) i).bytes };
+}
+
+impl<O: Offset> Slotted for BinaryArray<O> {
+    ghost slots = { offset_slots };
+
+    fn count(&self) -> usize {
+        self.len()
+    }
+
+    fn is_valid_at(&self, i: usize) -> bool {
+        self.known();
+        self.is_valid(i)
+    }
+
+    fn bytes_at(&self, i: usize) -> &[u8] {
+        self.known();
+        self.value(i)
+    }
+}
+
+impl<K: ViewKind> Slotted for BinaryViewArrayGeneric<K> {
+    ghost slots = { view_slots };
+
+    fn count(&self) -> usize {
+        self.len()
+    }
+
+    fn is_valid_at(&self, i: usize) -> bool {
+        self.known();
+        self.is_valid(i)
+    }
+
+    fn bytes_at(&self, i: usize) -> &[u8] {
+        self.known();
+        self.value_bytes(i)
+    }
+}
+
 #[tactic(auto, using(crate::proofs::TextLemmas::next_line))]
-fn append_slots<O: Offset>(
-    alloc: Global,
-    text: &mut Vec<u8>,
-    array: &BinaryArray<O>,
-) -> Result<(), AllocError>
-    ensures { OnOk result (text.new.items ≡ text.old.items ++ flat_map slot_line (offset_slots array.now)) }
+fn append_slots<A: Slotted>(alloc: Global, text: &mut Vec<u8>, array: &A) -> Result<(), AllocError>
+    ensures { OnOk result (text.new.items ≡ text.old.items ++ flat_map slot_line (A.slots array.now)) }
 {
-    for i in 0..array.len() {
-        append_slot(alloc, text, array.is_valid(i), array.value(i))?;
+    for i in 0..array.count() {
+        append_slot(alloc, text, array.is_valid_at(i), array.bytes_at(i))?;
     }
     Ok(())
 }
@@ -145,6 +204,59 @@ fn array_text<O: PrintedOffset>(
     Ok(text)
 }
 
+fn append_named(
+    alloc: Global,
+    text: &mut Vec<u8>,
+    name: &[u8],
+    bytes: &[u8],
+) -> Result<(), AllocError>
+    ensures { OnOk result (text.new.items ≡ text.old.items ++ named_line name.now bytes.now) }
+{
+    text.extend_from_slice(name)?;
+    append_hex(alloc, text, bytes)?;
+    text.push(b'\n')?;
+    Ok(())
+}
+
+#[tactic(auto, using(crate::proofs::TextLemmas::next_named))]
+fn append_views(alloc: Global, text: &mut Vec<u8>, views: &[View]) -> Result<(), AllocError>
+    ensures { OnOk result (text.new.items ≡ text.old.items ++ flat_map (named_line (codes "view=")) views.now) }
+{
+    for view in views {
+        append_named(alloc, text, b"view=", &view.to_le())?;
+    }
+    Ok(())
+}
+
+#[tactic(auto, using(crate::proofs::TextLemmas::next_named))]
+fn append_buffers(
+    alloc: Global,
+    text: &mut Vec<u8>,
+    buffers: &DataBuffers,
+) -> Result<(), AllocError>
+    ensures { OnOk result (text.new.items ≡ text.old.items ++ flat_map (named_line (codes "buffer=")) buffers.now) }
+{
+    for i in 0..buffers.len() {
+        append_named(alloc, text, b"buffer=", buffers.get(i).as_slice())?;
+    }
+    Ok(())
+}
+
+fn view_array_text<K: ViewKind>(
+    alloc: Global,
+    kind: Kind,
+    array: &BinaryViewArrayGeneric<K>,
+) -> Result<Vec<u8>, AllocError>
+    ensures { IfOk result (λ text. text.items ≡ printed_head (kind_of kind) (view_slots array.now) ++ view_text array.now) }
+{
+    let mut text = Vec::new(alloc);
+    append_head(&mut text, kind.name(), array.len())?;
+    append_slots(alloc, &mut text, array)?;
+    append_views(alloc, &mut text, array.views().as_slice())?;
+    append_buffers(alloc, &mut text, array.data_buffers())?;
+    Ok(text)
+}
+
 /// The text of a column, whole.
 ///
 /// The line `ok KIND N`, a line for each slot with `+` where it is valid and `-` where it is null and its bytes in
@@ -158,6 +270,8 @@ pub fn text_of(alloc: Global, column: &AnyArray) -> Result<Vec<u8>, PolarsError>
         AnyArray::Binary64(array) => Ok(array_text(alloc, Kind::Binary64, array)?),
         AnyArray::Utf8_32(array) => Ok(array_text(alloc, Kind::Utf8_32, array.as_binary())?),
         AnyArray::Utf8_64(array) => Ok(array_text(alloc, Kind::Utf8_64, array.as_binary())?),
+        AnyArray::BinView(array) => Ok(view_array_text(alloc, Kind::BinView, array)?),
+        AnyArray::Utf8View(array) => Ok(view_array_text(alloc, Kind::Utf8View, array)?),
     }
 }
 

@@ -92,6 +92,120 @@ fn columns_are_printed(rt: HostRuntime) -> Result<(), Fail> {
 }
 
 #[test]
+fn columns_of_views_are_printed(rt: HostRuntime) -> Result<(), Fail> {
+    let table: Rows<'_, 8> = [
+        (
+            br#"{"kind":"binview","views":[],"buffers":[]}"#,
+            b"ok binview 0\n",
+        ),
+        (
+            br#"{"kind":"binview","views":["03000000616263000000000000000000"],"buffers":[]}"#,
+            b"ok binview 1\n+616263\nview=03000000616263000000000000000000\n",
+        ),
+        (
+            br#"{"kind":"binview","views":["0c0000006162636465666768696a6b6c","0d000000616263640000000000000000"],"buffers":["6162636465666768696a6b6c6d"]}"#,
+            b"ok binview 2\n+6162636465666768696a6b6c\n+6162636465666768696a6b6c6d\nview=0c0000006162636465666768696a6b6c\nview=0d000000616263640000000000000000\nbuffer=6162636465666768696a6b6c6d\n",
+        ),
+        (
+            // views that share bytes, bytes of a null slot, and a buffer that no view names
+            br#"{"validity":[true,false],"kind":"utf8view","buffers":["6162636465666768696a6b6c6d6e","FF"],"views":["0D000000616263640000000000000000","0d000000626364650000000001000000"]}"#,
+            b"ok utf8view 2\n+6162636465666768696a6b6c6d\n-62636465666768696a6b6c6d6e\nview=0d000000616263640000000000000000\nview=0d000000626364650000000001000000\nbuffer=6162636465666768696a6b6c6d6e\nbuffer=ff\n",
+        ),
+        (
+            br#"{"kind":"utf8view","views":["040000004f736c6f0000000000000000","0d00000053616e200000000000000000","00000000000000000000000000000000"],"buffers":["53616e204672616e636973636f"],"validity":[true,true,false],"plan":[["slice",1,2],["to_binary"],["to_utf8"]]}"#,
+            b"ok utf8view 2\n+53616e204672616e636973636f\n-\nview=0d00000053616e200000000000000000\nview=00000000000000000000000000000000\nbuffer=53616e204672616e636973636f\n",
+        ),
+        (
+            br#"{"kind":"utf8view","views":["040000004f736c6f0000000000000000","0d00000053616e200000000000000000","00000000000000000000000000000000"],"buffers":["53616e204672616e636973636f"],"validity":[true,true,false],"plan":[["left",1],["to_binary"]]}"#,
+            b"ok binview 1\n+4f736c6f\nview=040000004f736c6f0000000000000000\nbuffer=53616e204672616e636973636f\n",
+        ),
+        (
+            br#"{"kind":"binview","views":["02000000c3a900000000000000000000","00000000000000000000000000000000"],"buffers":[""],"plan":[["right",0],["to_utf8"],["right",2]]}"#,
+            b"ok utf8view 0\nbuffer=\n",
+        ),
+        (
+            br#"{"kind":"binview","offsets":1,"values":1,"views":["00000000000000000000000000000000"],"buffers":[],"validity":[false]}"#,
+            b"ok binview 1\n-\nview=00000000000000000000000000000000\n",
+        ),
+    ];
+    for (document, text) in table {
+        assert!(rt; answers(rt.alloc(), document, 0, text)?, "{text:?}");
+    }
+    Ok(())
+}
+
+#[test]
+fn views_are_refused(rt: HostRuntime) -> Result<(), Fail> {
+    let table: Rows<'_, 15> = [
+        (
+            br#"{"kind":"binview","views":["03000000616263010000000000000000"],"buffers":[]}"#,
+            b"refused parts NonZeroPadding\n",
+        ),
+        (
+            br#"{"kind":"binview","views":["0c0000006162636465666768696a6b6c","0d000000616263640100000000000000"],"buffers":["6162636465666768696a6b6c6d"]}"#,
+            b"refused parts ViewIndex\n",
+        ),
+        (
+            br#"{"kind":"binview","views":["0c0000006162636465666768696a6b6c","0d000000616263640000000001000000"],"buffers":["6162636465666768696a6b6c6d"]}"#,
+            b"refused parts BufferSlice\n",
+        ),
+        (
+            br#"{"kind":"binview","views":["0c0000006162636465666768696a6b6c","0d000000616263650000000000000000"],"buffers":["6162636465666768696a6b6c6d"]}"#,
+            b"refused parts PrefixMismatch\n",
+        ),
+        (
+            br#"{"kind":"binview","views":["0d000000616161610000000000000000"],"buffers":[]}"#,
+            b"refused parts ViewIndex\n",
+        ),
+        (
+            br#"{"kind":"binview","views":["0d00000061616161ffffffff00000000"],"buffers":["61616161616161616161616161"]}"#,
+            b"refused parts ViewIndex\n",
+        ),
+        (
+            br#"{"kind":"binview","views":["0d0000006161616100000000ffffffff"],"buffers":["61616161616161616161616161"]}"#,
+            b"refused parts BufferSlice\n",
+        ),
+        (
+            br#"{"kind":"binview","views":["ffffffff616161610000000000000000"],"buffers":["61616161616161616161616161"]}"#,
+            b"refused parts BufferSlice\n",
+        ),
+        (
+            br#"{"kind":"binview","views":["0d000000626161610000000000000000","0d000000616161610100000000000000"],"buffers":["61616161616161616161616161"],"validity":[true]}"#,
+            b"refused parts PrefixMismatch\n",
+        ),
+        (
+            br#"{"kind":"utf8view","views":["01000000ff0000000000000000000000"],"buffers":[],"validity":[false]}"#,
+            b"refused parts InvalidUtf8\n",
+        ),
+        (
+            br#"{"kind":"utf8view","views":["01000000ff0100000000000000000000"],"buffers":[]}"#,
+            b"refused parts NonZeroPadding\n",
+        ),
+        (
+            // the buffer is UTF-8, and the view ends inside a character
+            br#"{"kind":"utf8view","views":["0d000000616161610000000000000000"],"buffers":["616161616161616161616161c3a9"]}"#,
+            b"refused parts InvalidUtf8\n",
+        ),
+        (
+            br#"{"kind":"utf8view","views":["00000000000000000000000000000000"],"buffers":[],"validity":[]}"#,
+            b"refused parts ValidityLength\n",
+        ),
+        (
+            br#"{"kind":"binview","views":["00000000000000000000000000000000","02000000a9c300000000000000000000"],"buffers":[],"validity":[true,false],"plan":[["left",2],["to_utf8"]]}"#,
+            b"refused step 1 InvalidUtf8\n",
+        ),
+        (
+            br#"{"kind":"binview","views":["00000000000000000000000000000000"],"buffers":[],"plan":[["to_utf8"],["to_utf8"]]}"#,
+            b"refused step 1 WrongKind\n",
+        ),
+    ];
+    for (document, text) in table {
+        assert!(rt; answers(rt.alloc(), document, 1, text)?, "{text:?}");
+    }
+    Ok(())
+}
+
+#[test]
 fn parts_and_steps_are_refused(rt: HostRuntime) -> Result<(), Fail> {
     let table: Rows<'_, 23> = [
         (
@@ -195,7 +309,7 @@ fn parts_and_steps_are_refused(rt: HostRuntime) -> Result<(), Fail> {
 
 #[test]
 fn what_is_no_document_is_told(rt: HostRuntime) -> Result<(), Fail> {
-    let table: Rows<'_, 15> = [
+    let table: Rows<'_, 18> = [
         (br#"{"kind":"bin"#, b"document json\n"),
         (b"", b"document json\n"),
         (b"\xff", b"document json\n"),
@@ -229,6 +343,18 @@ fn what_is_no_document_is_told(rt: HostRuntime) -> Result<(), Fail> {
         (
             br#"{"kind":"utf8_32","offsets":[0],"values":"","plan":[["left"]]}"#,
             b"document field plan\n",
+        ),
+        (
+            br#"{"kind":"binview","buffers":[]}"#,
+            b"document field views\n",
+        ),
+        (
+            br#"{"kind":"utf8view","views":["0000000000000000000000000000000"],"buffers":[]}"#,
+            b"document field views\n",
+        ),
+        (
+            br#"{"kind":"utf8view","views":[],"buffers":["0"]}"#,
+            b"document field buffers\n",
         ),
         (br#"{"kind":"fixed"}"#, b"document unbuilt\n"),
         (
