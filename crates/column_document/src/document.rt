@@ -46,7 +46,7 @@ pub fn parse_document(alloc: Global, bytes: Vec<u8>) -> Result<(RawColumn, Vec<S
 /// `NoMemory` may come where a growth finds none.
 ///
 /// Takes time and memory by the length of the fields that are read; each list is decoded once, into its own memory.
-#[tactic(auto, unfolding(crate::specs::Document::document_of))]
+#[tactic(auto, using(crate::proofs::DocumentLemmas::is_json), unfolding(crate::specs::Document::document_of))]
 pub fn read_document(alloc: Global, value: &Value) -> Result<(RawColumn, Vec<Step>), DocError>
     ensures said { ReadsFieldsAs (λ read. document read.0 read.1.items) result (document_of (view value.now)) }
     ensures parsed { document_of (view value.now) ≢ Err DocFault.Json }
