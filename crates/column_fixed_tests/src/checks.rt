@@ -145,8 +145,8 @@ pub fn part_is(
 ) -> Result<bool, PolarsError> {
     let array = four(alloc)?;
     Ok(
-        offset <= 4
-            && length <= 4 - offset
+        offset <= array.len()
+            && length <= array.len() - offset
             && lists_are(&array.sliced(offset, length), 2, values, flags, length),
     )
 }
