@@ -1,7 +1,9 @@
 -- One more line of a text.
-use Rattle.std.proofs.Common.{◌≡◌, ℕ, ◌+◌, ◌<◌, ℤ, true, List, [], ◌∷◌, ◌++◌, length, take, map, get_or, sym, ◌∙◌, ap, append-nil}
+use Rattle.std.proofs.Common.{◌≡◌, ℕ, ◌+◌, ◌<◌, ℤ, true, List, [], ◌∷◌, ◌++◌, length, take, map, get_or, Some, sym, ◌∙◌, ap, append-nil}
 use Rattle.std.specs.List.{flat_map}
+use Rattle.std.specs.List.{slice_get}
 use Rattle.std.proofs.lemmas.List.{take_more}
+use Rattle.std.proofs.lemmas.Option.{slice_get_within, get_or_from_slice_get}
 use Rattle.std.proofs.lemmas.List.Concat.{flat_map-append}
 use Rattle.std.proofs.lemmas.List.Folds.{flat_map-map}
 use Rattle.column_base.specs.Kinds.{Slot}
@@ -28,3 +30,7 @@ next_number {X = X} int xs i x within is =
 -- a further list under its name
 pub next_named : (name : List ℕ) (lists : List (List ℕ)) (i : ℕ) (bytes : List ℕ) → i < length lists → bytes ≡ get_or lists i bytes → flat_map (named_line name) (take (i + 1) lists) ≡ flat_map (named_line name) (take i lists) ++ named_line name bytes
 next_named name lists i bytes within is = line_more (named_line name) lists i bytes within ∙ ap (λ (line : List ℕ). flat_map (named_line name) (take i lists) ++ named_line name line) (sym is)
+
+-- the same of a list that is looked up
+pub next_found : (name : List ℕ) (lists : List (List ℕ)) (i : ℕ) (bytes : List ℕ) → slice_get lists i ≡ Some bytes → flat_map (named_line name) (take (i + 1) lists) ≡ flat_map (named_line name) (take i lists) ++ named_line name bytes
+next_found name lists i bytes found = next_named name lists i bytes (slice_get_within lists i bytes found) (sym (get_or_from_slice_get lists i bytes bytes found))

@@ -228,7 +228,6 @@ fn append_views(alloc: Global, text: &mut Vec<u8>, views: &[View]) -> Result<(),
     Ok(())
 }
 
-#[tactic(auto, using(crate::proofs::TextLemmas::next_named))]
 fn append_buffers(
     alloc: Global,
     text: &mut Vec<u8>,
