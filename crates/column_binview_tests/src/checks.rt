@@ -346,6 +346,7 @@ pub fn equals_four(
 
 pub fn applied_is(alloc: Global) -> Result<bool, PolarsError> {
     let array = four_texts(alloc)?;
+    array.known();
     let same = array.apply_views(alloc, |view, _text| view)?;
     Ok(same == array && sums_are(&same, 28, 15))
 }
