@@ -1,5 +1,5 @@
 -- Laws of faults of views.
-use Rattle.std.proofs.Common.{◌≡◌, ℕ, ◌<◌, ◌^◌, ◌≤◌, Bool, true, false, not, List, [], ◌∷◌, length, Option, Some, None, refl, sym, subst}
+use Rattle.std.proofs.Common.{◌≡◌, ◌↔◌, ℕ, zero, suc, ◌<◌, ◌^◌, ◌≤◌, Bool, true, false, not, List, [], ◌∷◌, length, Option, Some, None, refl, sym, subst, slice_index_or, arith}
 use Rattle.std.specs.Prelude.{◌&&◌}
 use Rattle.column_base.specs.declared.errors.Cause.{Cause}
 use Rattle.column_base.specs.declared.errors.Cause.TheVariants.{InvalidUtf8}
@@ -54,6 +54,24 @@ no_content_fault view buffers = refl
 or_none : (first : Option Cause) → first or_else None ≡ first
 or_none None = refl
 or_none (Some cause) = refl
+
+-- no view has a fault exactly where each has none
+fine_each : (text : Bool) (views buffers : List (List ℕ)) (i : ℕ) → views_fault text views buffers ≡ None → i < length views → view_fault text (slice_index_or views i []) buffers ≡ None
+fine_each text [] buffers i fine within = absurd (omega arith)
+fine_each text (view ∷ views) buffers zero fine within = first_none (view_fault text view buffers) (views_fault text views buffers) fine
+fine_each text (view ∷ views) buffers (suc i) fine within =
+    fine_each text views buffers i (rest_none (view_fault text view buffers) (views_fault text views buffers) fine) (omega arith)
+
+each_fine : (text : Bool) (views buffers : List (List ℕ)) → ((i : ℕ) → i < length views → view_fault text (slice_index_or views i []) buffers ≡ None) → views_fault text views buffers ≡ None
+each_fine text [] buffers each = refl
+each_fine text (view ∷ views) buffers each =
+    none_both (view_fault text view buffers) (views_fault text views buffers) (each 0 (omega arith)) (each_fine text views buffers (λ i within. each (suc i) (omega arith)))
+
+pub fine_exactly : (text : Bool) (views buffers : List (List ℕ)) → (views_fault text views buffers ≡ None) ↔ ((i : ℕ) → i < length views → view_fault text (slice_index_or views i []) buffers ≡ None)
+fine_exactly text views buffers = ((λ fine i within. fine_each text views buffers i fine within), each_fine text views buffers)
+
+pub layout_fine : (text : Bool) (view : List ℕ) (buffers : List (List ℕ)) → view_fault text view buffers ≡ None → layout_fault view buffers ≡ None
+layout_fine text view buffers fine = first_none (layout_fault view buffers) (content_fault text view buffers) fine
 
 -- where no view has a fault as a byte string, the first fault as text is that of a content
 pub texts_fault : (views buffers : List (List ℕ)) → views_fault false views buffers ≡ None → views_fault true views buffers ≡ contents_fault views buffers

@@ -1,9 +1,9 @@
 //! Laws of views: what the views that are made say, when two views are equal, and what is kept where a buffer is named
 //! by another place.
 
-ghost use Rattle.std.specs.Prelude.{◌≡◌, ◌↔◌, ℕ, ◌^◌, ◌<◌, ◌≤◌, Bool, true, false, List, length, None};
+ghost use Rattle.std.specs.Prelude.{◌≡◌, ◌↔◌, ℕ, ◌^◌, ◌<◌, ◌≤◌, Bool, true, false, List, [], length, slice_index_or, None};
 ghost use Rattle.column_view.specs.Views.{IsView, StandsAt, view_length, view_prefix, view_index, view_start, view_content, is_long, inline_view, long_view, with_index};
-ghost use Rattle.column_view.specs.ViewFaults.{Says, layout_fault, views_fault, contents_fault};
+ghost use Rattle.column_view.specs.ViewFaults.{Says, layout_fault, view_fault, views_fault, contents_fault};
 
 /// A view that is made of bytes says them, and has no fault where a slot may hold them: one that holds its bytes over any
 /// buffers, and a long one where they stand in the buffer that it names.
@@ -27,6 +27,13 @@ pub fn other_place_keeps_the_rest()
     ensures prefix { (view : List ℕ) (index : ℕ) → IsView view → view_prefix (with_index view index) ≡ view_prefix view }
     ensures start { (view : List ℕ) (index : ℕ) → IsView view → view_start (with_index view index) ≡ view_start view }
     ensures index { (view : List ℕ) (index : ℕ) → IsView view → index < 2 ^ 32 → view_index (with_index view index) ≡ index }
+{}
+
+/// Views have no fault exactly where each of them has none, and then the content of each can be read.
+pub fn no_fault_in_each()
+    ensures each { (text : Bool) (views buffers : List (List ℕ))
+        → (views_fault text views buffers ≡ None) ↔ ((i : ℕ) → i < length views → view_fault text (slice_index_or views i []) buffers ≡ None) }
+    ensures layout { (text : Bool) (view : List ℕ) (buffers : List (List ℕ)) → view_fault text view buffers ≡ None → layout_fault view buffers ≡ None }
 {}
 
 /// Views without a fault as byte strings have a fault as texts exactly where a content is not UTF-8, and it is that of the

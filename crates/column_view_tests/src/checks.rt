@@ -1,11 +1,14 @@
 //! What views are seen to be: one truth value for each group of calls, and no assertion.
 
-ghost use Rattle.std.specs.Prelude.{◌<◌, ◌≤◌};
+ghost use Rattle.std.specs.Prelude.{◌≡◌, ◌<◌, ◌≤◌, None};
+ghost use Rattle.column_view.specs.ViewFaults.{layout_fault};
 
 use crate::cases::{Held, LONG, SHORT, buffers_of, long, view};
 use column_base::{Cause, PolarsError};
+use column_storage::DataBuffers;
 use column_view::{
-    View, check_contents, check_views, validate_binary_view, validate_utf8_only, validate_utf8_view,
+    View, check_contents, check_views, no_fault_in_each,
+    validate_binary_view, validate_utf8_only, validate_utf8_view,
 };
 use std::alloc::Global;
 
@@ -60,15 +63,30 @@ pub fn numbers_are() -> bool {
         && View::MAX_INLINE_SIZE == 12
 }
 
+// a view without a fault, and its content in these buffers
+fn content_is(view: &View, buffers: &DataBuffers, bytes: &[u8]) -> bool
+    requires { layout_fault view.now buffers.now ≡ None }
+{
+    view.get_slice_unchecked(buffers) == bytes
+}
+
+/// Whether a view holds these bytes.
+pub fn inlined_is(made: &View, bytes: &[u8]) -> bool {
+    made.length() <= 12 && made.get_inlined_slice_unchecked() == bytes
+}
+
+/// Whether one view, where it has no fault, has this content.
+pub fn one_content_is(alloc: Global, made: View, held: Held<'_>, bytes: &[u8]) -> Result<bool, PolarsError> {
+    let buffers = buffers_of(alloc, held)?;
+    no_fault_in_each();
+    Ok(check_views(&[made], &buffers, false).is_ok() && content_is(&made, &buffers, bytes))
+}
+
 pub fn contents_are(alloc: Global) -> Result<bool, PolarsError> {
     let buffers = buffers_of(alloc, Held::Second(b"xabcdefghijklmy"))?;
     let short = [view(SHORT)];
     let named = [view(long(1, 1))];
-    Ok(
-        check_views(&short, &buffers, true).is_ok()
-            && check_views(&named, &buffers, true).is_ok()
-            && View::new_inline(b"abc").length() == 3,
-    )
+    Ok(check_views(&short, &buffers, true).is_ok() && check_views(&named, &buffers, true).is_ok())
 }
 
 // ---- faults

@@ -2,8 +2,8 @@
 
 use crate::cases::{Held, LONG, SHORT, long, view};
 use crate::checks::{
-    contents_are, cut_is, faults_are, long_is, numbers_are, other_place_is, short_is, texts_are,
-    twelve_is,
+    contents_are, cut_is, faults_are, inlined_is, long_is, numbers_are, one_content_is, other_place_is,
+    short_is, texts_are, twelve_is,
 };
 use column_base::Cause;
 use column_view::{
@@ -21,7 +21,10 @@ fn views_are_made(rt: HostRuntime) {
 #[test]
 fn contents_are_read(rt: HostRuntime) -> Result<(), Fail> {
     let good = contents_are(rt.alloc())?;
-    assert!(rt; good);
+    let held = Held::Second(b"xabcdefghijklmy");
+    let short = one_content_is(rt.alloc(), view(SHORT), held, b"abc")?;
+    let named = one_content_is(rt.alloc(), view(long(1, 1)), held, LONG)?;
+    assert!(rt; good && short && named && inlined_is(&view(SHORT), b"abc"));
     Ok(())
 }
 
