@@ -7,8 +7,8 @@ use crate::cases::{Held, LONG, SHORT, buffers_of, long, view};
 use column_base::{Cause, PolarsError};
 use column_storage::DataBuffers;
 use column_view::{
-    View, check_contents, check_views, no_fault_in_each,
-    validate_binary_view, validate_utf8_only, validate_utf8_view,
+    View, check_contents, check_views, no_fault_in_each, validate_binary_view, validate_utf8_only,
+    validate_utf8_view,
 };
 use std::alloc::Global;
 
@@ -76,7 +76,12 @@ pub fn inlined_is(made: &View, bytes: &[u8]) -> bool {
 }
 
 /// Whether one view, where it has no fault, has this content.
-pub fn one_content_is(alloc: Global, made: View, held: Held<'_>, bytes: &[u8]) -> Result<bool, PolarsError> {
+pub fn one_content_is(
+    alloc: Global,
+    made: View,
+    held: Held<'_>,
+    bytes: &[u8],
+) -> Result<bool, PolarsError> {
     let buffers = buffers_of(alloc, held)?;
     no_fault_in_each();
     Ok(check_views(&[made], &buffers, false).is_ok() && content_is(&made, &buffers, bytes))

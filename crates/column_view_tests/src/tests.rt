@@ -2,8 +2,8 @@
 
 use crate::cases::{Held, LONG, SHORT, long, view};
 use crate::checks::{
-    contents_are, cut_is, faults_are, inlined_is, long_is, numbers_are, one_content_is, other_place_is,
-    short_is, texts_are, twelve_is,
+    contents_are, cut_is, faults_are, inlined_is, long_is, numbers_are, one_content_is,
+    other_place_is, short_is, texts_are, twelve_is,
 };
 use column_base::Cause;
 use column_view::{
