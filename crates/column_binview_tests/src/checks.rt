@@ -5,9 +5,9 @@ ghost use Rattle.column_binview.specs.Slots.{view_count};
 
 use crate::cases::{FOUR, LONG, NONE, TWELVE, array, four, four_texts, lists};
 use column_base::{ArrowDataType, BinaryKind, Cause, PolarsError, Splitable, Utf8Kind, ViewKind};
-use column_binview::{BinaryViewArray, BinaryViewArrayGeneric, Utf8ViewArray};
-use column_checks::{Flags, Half, ends_are, flags_are, gives, half_of};
-use column_storage::{ArrayAccessor, Buffer, DataBuffers};
+use column_binview::{BinaryViewArray, BinaryViewArrayGeneric, Utf8ViewArray, no_fault_is_sound};
+use column_checks::{Flags, Half, bitmap, ends_are, flags_are, gives, half_of};
+use column_storage::{ArrayAccessor, Bitmap, Buffer, DataBuffers, check_validity};
 use column_view::View;
 use std::alloc::Global;
 
@@ -265,6 +265,47 @@ fn is_again(array: BinaryViewArray) -> bool {
     slots == 28 && bytes == 15 && lists_are(&again, &FOUR, Some(b"xabcdefghijklmy"), None)
 }
 
+fn with_is(array: BinaryViewArray, bits: Option<Bitmap>, flags: Flags<'_>) -> bool {
+    match check_validity(bits.as_ref(), array.len()) {
+        Ok(()) => lists_are(
+            &array.with_validity(bits),
+            &FOUR,
+            Some(b"xabcdefghijklmy"),
+            flags,
+        ),
+        Err(_) => false,
+    }
+}
+
+fn set_is(array: BinaryViewArray, bits: Option<Bitmap>, flags: Flags<'_>) -> bool {
+    let mut array = array;
+    match check_validity(bits.as_ref(), array.len()) {
+        Ok(()) => array.set_validity(bits),
+        Err(_) => return false,
+    }
+    lists_are(&array, &FOUR, Some(b"xabcdefghijklmy"), flags)
+}
+
+/// The four with other flags, put there by value or by reference.
+pub fn four_take(alloc: Global, flags: Flags<'_>, set: bool) -> Result<bool, PolarsError> {
+    let bits = bitmap(alloc, flags)?;
+    let array = four(alloc)?;
+    Ok(if set {
+        set_is(array, bits, flags)
+    } else {
+        with_is(array, bits, flags)
+    })
+}
+
+/// The four, taken apart and made of their lists once more.
+pub fn four_again(alloc: Global) -> Result<bool, PolarsError> {
+    let (views, buffers, validity) = four(alloc)?.into_lists();
+    no_fault_is_sound();
+    let few = buffers.len() <= 1;
+    let again = BinaryViewArray::new(ArrowDataType::Unknown, views, buffers, validity);
+    Ok(few && four_are_read(&again))
+}
+
 pub fn share_is(alloc: Global, array: &BinaryViewArray) -> Result<bool, PolarsError> {
     let (views, buffers, validity) = array.try_clone(alloc)?.into_lists();
     let again = BinaryViewArray::new_unchecked_unknown_md(
@@ -297,6 +338,21 @@ pub fn round_is(alloc: Global, array: &Utf8ViewArray) -> Result<bool, PolarsErro
             && lists_are(&strings, &FOUR, Some(b"xabcdefghijklmy"), None)
             && texts == *array,
     )
+}
+
+/// The same as texts without a look at them, where a look has found texts.
+pub fn unchecked_is(alloc: Global) -> Result<bool, PolarsError> {
+    let array = four(alloc)?;
+    if array.validate_utf8().is_err() {
+        return Ok(false);
+    }
+    let texts = array.to_utf8view_unchecked(alloc)?;
+    Ok(lists_are(
+        &texts,
+        &FOUR,
+        Some(b"xabcdefghijklmy"),
+        Some(&[true, false, true, true]),
+    ))
 }
 
 pub fn law_is(alloc: Global, array: &Utf8ViewArray) -> Result<bool, PolarsError> {

@@ -2,10 +2,10 @@
 
 use crate::cases::{ABC, FOUR, LONG, NONE, TWELVE, four, four_texts, long};
 use crate::checks::{
-    Call, applied_is, empty_is, equals_four, four_are_read, four_cut, four_give, is_told,
-    kinds_are, law_is, lengths_are, moved_is, nulls_are, other_flags_are, raw_is_told, refused_is,
-    round_is, rows_are, share_is, text_rows_are, text_values_are, texts_are_read, values_are,
-    views_are_given, views_are_handed,
+    Call, applied_is, empty_is, equals_four, four_again, four_are_read, four_cut, four_give,
+    four_take, is_told, kinds_are, law_is, lengths_are, moved_is, nulls_are, other_flags_are,
+    raw_is_told, refused_is, round_is, rows_are, share_is, text_rows_are, text_values_are,
+    texts_are_read, unchecked_is, values_are, views_are_given, views_are_handed,
 };
 use column_base::{BinaryKind, Cause, Utf8Kind};
 use column_binview::{
@@ -143,6 +143,15 @@ fn lists_are_handed_back(rt: HostRuntime) -> Result<(), Fail> {
     Ok(())
 }
 
+#[test]
+fn other_flags_are_taken(rt: HostRuntime) -> Result<(), Fail> {
+    let none = four_take(rt.alloc(), None, false)?;
+    let some = four_take(rt.alloc(), Some(&[false, true, true, true]), true)?;
+    let again = four_again(rt.alloc())?;
+    assert!(rt; none && some && again);
+    Ok(())
+}
+
 // ---- conversions
 
 #[test]
@@ -150,7 +159,8 @@ fn round_trips(rt: HostRuntime) -> Result<(), Fail> {
     let array = four_texts(rt.alloc())?;
     let round = round_is(rt.alloc(), &array)?;
     let law = law_is(rt.alloc(), &array)?;
-    assert!(rt; round && law && moved_is(array));
+    let unchecked = unchecked_is(rt.alloc())?;
+    assert!(rt; round && law && unchecked && moved_is(array));
     Ok(())
 }
 
