@@ -1,3 +1,4 @@
 pub mod SlotsLemmas
 pub mod RowsLemmas
 pub mod TextLemmas
+pub mod OperationsLemmas

@@ -1,15 +1,15 @@
 -- Laws of lists that take rows, and of lists that are frozen.
-use Rattle.std.proofs.Common.{◌≡◌, ℕ, zero, suc, ◌+◌, ◌<◌, ◌≤◌, Bool, true, false, List, [], ◌∷◌, ◌++◌, length, map, replicate, Option, Some, None, refl, sym, ◌∙◌, ap, subst, arith}
+use Rattle.std.proofs.Common.{◌≡◌, ℕ, zero, suc, ◌+◌, ◌<◌, ◌≤◌, Bool, true, false, List, [], ◌∷◌, ◌++◌, length, map, take, replicate, Option, Some, None, refl, sym, ◌∙◌, ap, subst, arith}
 use Rattle.std.specs.Prelude.{min, option_map}
-use Rattle.std.proofs.lemmas.List.{length-append, length-map, map-append, append-nil, append_assoc}
+use Rattle.std.proofs.lemmas.List.{length-append, length-map, length-take-le, map-append, append-nil, append_assoc}
 use Rattle.column_base.specs.Kinds.{Slot}
 use Rattle.column_base.specs.Pushes.{grown, growth_fault}
 use Rattle.column_storage.specs.Bits.{flags_of, pushed_flag}
 use Rattle.column_storage.specs.Slots.{flagged_slots}
 use Rattle.column_storage.specs.Validity.{AreFlagsOf}
-use Rattle.column_storage.proofs.GrowingFlagsLemmas.{are_flags-pushed, flagged_slots-pushed, are_flags-frozen, flagged_slots-frozen}
+use Rattle.column_storage.proofs.GrowingFlagsLemmas.{are_flags-pushed, flagged_slots-pushed, are_flags-first, flagged_slots-first, are_flags-frozen, flagged_slots-frozen}
 use Rattle.column_boolean.specs.Slots.{BooleanLists, boolean_lists, boolean_count, boolean_slots, byte_of, AreSoundBooleans}
-use Rattle.column_boolean.specs.Rows.{pushed_row, row_growth, slot_of, frozen_lists}
+use Rattle.column_boolean.specs.Rows.{pushed_row, row_growth, slot_of, first_booleans, frozen_lists}
 use Rattle.column_boolean.proofs.SlotsLemmas.{flagged}
 
 -- lists with one slot more
@@ -54,6 +54,26 @@ sound_rows lists (row ∷ rows) sound = sound_rows (pushed_row lists row) rows (
 pub none_refused : (lists : BooleanLists) (rows : List (Option Bool)) → growth_fault row_growth lists rows ≡ None
 none_refused lists [] = refl
 none_refused lists (row ∷ rows) = none_refused (pushed_row lists row) rows
+
+-- ---- the first slots
+
+pub sound_first : (lists : BooleanLists) (n : ℕ) → AreSoundBooleans lists → n ≤ boolean_count lists → AreSoundBooleans (first_booleans lists n)
+unfolding first_booleans
+sound_first lists n sound within = record {
+  flagged = subst (λ (m : ℕ). AreFlagsOf m (option_map (take n) lists.flags)) (sym (length-take-le n lists.values within)) (are_flags-first lists.flags n (boolean_count lists) within sound.flagged);
+}
+
+pub slots-first : (lists : BooleanLists) (n : ℕ) → n ≤ boolean_count lists → boolean_slots (first_booleans lists n) ≡ take n (boolean_slots lists)
+unfolding first_booleans boolean_slots
+slots-first lists n within =
+    let count = length-map lists.values byte_of in
+    ap (flagged_slots (option_map (take n) lists.flags)) (map-take lists.values n)
+    ∙ flagged_slots-first lists.flags (map byte_of lists.values) n (omega arith)
+  where
+    map-take : (values : List Bool) (n : ℕ) → map byte_of (take n values) ≡ take n (map byte_of values)
+    map-take values zero = refl
+    map-take [] (suc n) = refl
+    map-take (value ∷ values) (suc n) = ap (λ rest. byte_of value ∷ rest) (map-take values n)
 
 -- ---- freezing
 
@@ -113,6 +133,8 @@ pub room_of_less : (n a b : ℕ) → min (n + a) (n + b) ≡ n + min a b
 room_of_less n a b = omega arith
 
 pub ruleset rows = (sound_row)
+
+pub ruleset firsts = (sound_first)
 
 pub ruleset freezing = (sound-frozen)
 

@@ -1,8 +1,9 @@
 -- The rows of truth values, how a builder's lists take them, and how an array of them prints.
-use Rattle.std.specs.Prelude.{ℕ, ◌==◌, Bool, true, false, List, [], ◌∷◌, ◌++◌, codes, Option, Some, None, if◌then◌else◌}
+use Rattle.std.specs.Prelude.{ℕ, ◌==◌, Bool, true, false, List, [], ◌∷◌, ◌++◌, take, slice_get, codes, Option, Some, None, option_map, if◌then◌else◌}
 use Rattle.column_base.specs.Kinds.{Slot}
 use Rattle.column_base.specs.Pushes.{Growth}
 use Rattle.column_storage.specs.Bits.{frozen_flags, given_bits, optional_values, pushed_flag}
+use Rattle.column_storage.specs.Validity.{is_valid_at}
 use Rattle.column_boolean.specs.Slots.{BooleanLists, boolean_lists, boolean_count, byte_of}
 
 -- This library's own: growing lists, and how many more slots they take without further memory.
@@ -18,6 +19,10 @@ no_slots = boolean_lists [] None
 abbrev pub boolean_rows : BooleanLists → List (Option Bool)
 boolean_rows lists = optional_values (given_bits lists.flags) lists.values
 
+-- the truth value of a slot; none where the slot is null, or past the end
+abbrev pub boolean_at : BooleanLists → ℕ → Option Bool
+boolean_at lists i = if is_valid_at lists.flags i then slice_get lists.values i else None
+
 -- the slot of a row: a null slot that is written is false
 abbrev pub slot_of : Option Bool → Slot
 slot_of None = record { valid = false; bytes = byte_of false }
@@ -31,6 +36,10 @@ pushed_row lists (Some value) = boolean_lists (lists.values ++ value ∷ []) (pu
 -- how lists take a row: none is refused
 abbrev pub row_growth : Growth BooleanLists (Option Bool)
 row_growth = record { fault = λ lists row. None; pushed = pushed_row }
+
+-- the first n slots
+unfoldable pub first_booleans : BooleanLists → ℕ → BooleanLists
+first_booleans lists n = boolean_lists (take n lists.values) (option_map (take n) lists.flags)
 
 -- the lists of an array of the same slots: a validity is dropped where no slot is null
 abbrev pub frozen_lists : BooleanLists → BooleanLists

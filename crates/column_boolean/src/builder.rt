@@ -1,6 +1,6 @@
 //! The builder of truth values: how it is made, read and changed.
 
-ghost use Rattle.std.specs.Prelude.{◌≡◌, ◌+◌, ◌<◌, ◌≤◌, ◌==◌, ◌++◌, false, length, length as list_length, replicate, None, Some, OnOk, OnErr, IsOk, IfSome, MatchOption};
+ghost use Rattle.std.specs.Prelude.{◌≡◌, ◌+◌, ◌-◌, ◌<◌, ◌≤◌, ◌==◌, ◌++◌, false, length, length as list_length, replicate, None, Some, OnOk, OnErr, IsOk, IfSome, MatchOption};
 ghost use Rattle.std.specs.Option.{option_copied};
 ghost use Rattle.column_base.specs.declared.datatypes.ArrowDataType.TheVariants as types;
 ghost use Rattle.column_base.specs.Answers.{Answers};
@@ -8,13 +8,13 @@ ghost use Rattle.column_base.specs.Pushes.{grown};
 ghost use Rattle.column_storage.specs.Bits.{GrowingBits, bits_given, flags_of, spare_beside};
 ghost use Rattle.column_storage.specs.Validity.{AreFlagsOf};
 ghost use Rattle.column_boolean.specs.Slots.{boolean_lists, boolean_slots, boolean_count, type_fault, AreSoundBooleans};
-ghost use Rattle.column_boolean.specs.Rows.{no_slots, pushed_row, row_growth, frozen_lists};
+ghost use Rattle.column_boolean.specs.Rows.{no_slots, boolean_at, pushed_row, row_growth, first_booleans, frozen_lists};
 
 use crate::array::BooleanArray;
 use column_base::{ArrowDataType, Growing, PolarsError, TryPush};
 use column_storage::{
-    MutableArray, MutableBitmap, add_flags, apply_flags, clone_flags, freeze_flags, push_null_flag,
-    push_valid_flag, reserve_flags, shrink_flags,
+    MutableArray, MutableBitmap, add_flags, apply_flags, clone_flags, flag_at, freeze_flags,
+    push_null_flag, push_valid_flag, reserve_flags, shrink_flags, truncate_flags,
 };
 use std::alloc::Global;
 use std::marker::Model;
@@ -256,6 +256,46 @@ impl MutableBooleanArray {
             Some(value) => self.push_value(value),
             None => self.push_null(),
         }
+    }
+
+    /// Takes the last slot, and gives its truth value: None where it is null, or where there is none.
+    #[tactic(auto, using(crate::proofs::RowsLemmas::firsts))]
+    pub fn pop(&mut self) -> Option<bool>
+        ensures row { let lists = self.old.lists in result ≡ boolean_at lists (boolean_count lists - 1) }
+        ensures rest { self.new.lists ≡ first_booleans self.old.lists (boolean_count self.old.lists - 1) }
+        ensures spare_kept { self.old.spare ≤ self.new.spare }
+    {
+        let count = self.len();
+        if count == 0 {
+            self.truncate(0);
+            return None;
+        }
+        let row = self.row(count - 1);
+        self.truncate(count - 1);
+        row
+    }
+
+    // The truth value of slot `i`, or None where it is null.
+    fn row(&self, i: usize) -> Option<bool>
+        requires { i < boolean_count self.now.lists }
+        ensures { result ≡ boolean_at self.now.lists i }
+    {
+        if flag_at(self.validity.as_ref(), i) {
+            Some(self.values.get(i))
+        } else {
+            None
+        }
+    }
+
+    // Keeps the first `count` slots.
+    #[tactic(auto, using(crate::proofs::RowsLemmas::firsts), unfolding(crate::specs::Rows::first_booleans))]
+    fn truncate(&mut self, count: usize)
+        requires { count ≤ boolean_count self.old.lists }
+        ensures slots { self.new.lists ≡ first_booleans self.old.lists count }
+        ensures spare_kept { self.old.spare ≤ self.new.spare }
+    {
+        self.values.truncate(count);
+        truncate_flags(&mut self.validity, count);
     }
 
     /// Adds `additional` slots of one row.

@@ -1,12 +1,12 @@
 //! Laws of lists of truth values: what their slots are, the law of slices, and how slots come and go in a builder.
 
-ghost use Rattle.std.specs.Prelude.{◌≡◌, ◌↔◌, ℕ, ◌+◌, ◌-◌, ◌<◌, ◌≤◌, Bool, List, [], ◌∷◌, ◌++◌, length, map, option_map, Option, None};
+ghost use Rattle.std.specs.Prelude.{◌≡◌, ◌↔◌, ℕ, ◌+◌, ◌-◌, ◌<◌, ◌≤◌, Bool, List, [], ◌∷◌, ◌++◌, length, map, take, option_map, Option, None};
 ghost use Rattle.column_base.specs.Lists.{sublist};
 ghost use Rattle.column_base.specs.Slots.{slot_at, rows_of};
 ghost use Rattle.column_base.specs.Pushes.{grown};
 ghost use Rattle.column_storage.specs.Bits.{flags_of};
 ghost use Rattle.column_boolean.specs.Slots.{BooleanLists, boolean_count, boolean_slots, boolean_fault, byte_of, sliced_booleans, AreSoundBooleans};
-ghost use Rattle.column_boolean.specs.Rows.{boolean_rows, pushed_row, row_growth, slot_of, frozen_lists};
+ghost use Rattle.column_boolean.specs.Rows.{boolean_rows, pushed_row, row_growth, slot_of, first_booleans, frozen_lists};
 
 /// Law of sound lists: no fault is found exactly where the lists are sound.
 pub fn no_fault_is_sound()
@@ -63,6 +63,11 @@ pub fn push_adds_a_slot()
 pub fn pushes_add_slots()
     ensures { (lists : BooleanLists) (rows : List (Option Bool)) → AreSoundBooleans lists
         → boolean_slots (grown row_growth lists rows) ≡ boolean_slots lists ++ map slot_of rows }
+{}
+
+/// The lists of the first slots have the first of the slots.
+pub fn first_slots_are_first()
+    ensures { (lists : BooleanLists) (n : ℕ) → n ≤ boolean_count lists → boolean_slots (first_booleans lists n) ≡ take n (boolean_slots lists) }
 {}
 
 /// Frozen lists have the same slots.

@@ -7,12 +7,14 @@ mod constructors;
 mod debug;
 mod iterator;
 mod laws;
+mod operations;
 
 pub use array::BooleanArray;
 pub use builder::MutableBooleanArray;
 pub use debug::write_value;
 pub use laws::{
-    flags_of_slice, frozen_slots_are_same, no_fault_is_sound, push_adds_a_slot, pushes_add_slots,
-    rows_are_bytes, slice_is_part, slices_are_one, slot_of_slice, slots_are_counted,
-    split_is_whole,
+    first_slots_are_first, flags_of_slice, frozen_slots_are_same, no_fault_is_sound,
+    push_adds_a_slot, pushes_add_slots, rows_are_bytes, slice_is_part, slices_are_one,
+    slot_of_slice, slots_are_counted, split_is_whole,
 };
+pub use operations::BooleanOperation;

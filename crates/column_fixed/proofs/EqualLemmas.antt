@@ -1,13 +1,16 @@
 -- Laws of lists that are compared element by element, and of rows.
-use Rattle.std.proofs.Common.{◌≡◌, ℕ, zero, suc, ◌+◌, ◌<◌, Bool, true, false, List, [], ◌∷◌, length, map, get_or, None, refl, sym, ◌∙◌, ap, arith}
+use Rattle.std.proofs.Common.{◌≡◌, ◌↔◌, ℕ, zero, suc, ◌+◌, ◌<◌, Bool, true, false, List, [], ◌∷◌, length, map, get_or, Option, Some, None, refl, sym, ◌∙◌, ap, arith}
 use Rattle.std.specs.Prelude.{◌&&◌}
-use Rattle.std.specs.Cmp.Lexicographic.{pointwise}
+use Rattle.std.specs.Bool.{Decides}
+use Rattle.std.specs.Cmp.{IsEquivalence}
+use Rattle.std.specs.Cmp.Lexicographic.{pointwise, pointwise_decides, bytes_decides, nat_list_eq_equiv, options_equiv, lists_equiv}
 use Rattle.std.specs.Option.{option_eq}
 use Rattle.std.specs.Prelude.{nat_eq}
 use Rattle.std.proofs.lemmas.List.{get_or-map, length-map}
 use Rattle.column_base.specs.Kinds.{Slot}
 use Rattle.column_base.specs.Slots.{slot_at, row_of, rows_of}
-use Rattle.column_fixed.specs.Rows.{is_same_row}
+use Rattle.column_fixed.specs.Slots.{fixed_slots}
+use Rattle.column_fixed.specs.Rows.{GrowingFixed, is_same_row, are_same_rows}
 
 never : (b : Bool) → (b && false) ≡ false
 never true = refl
@@ -58,3 +61,26 @@ rows_same slots others count each =
     (λ k within. rw (row_at slots k (omega arith), row_at others k (omega arith)) (each k (omega arith)))
 
 pub ruleset equality = (counts_differ, row_differs, rows_same)
+
+-- ---- equality is that of rows
+
+row_decides : (a b : Option (List ℕ)) → Decides (option_eq (pointwise nat_eq) a b) (a ≡ b)
+row_decides None None = (λ e. refl, λ e. refl)
+row_decides None (Some y) = (λ e. absurd (cc), λ e. absurd (cc))
+row_decides (Some x) None = (λ e. absurd (cc), λ e. absurd (cc))
+row_decides (Some x) (Some y) = (λ e. ap Some ((bytes_decides x y).0 e), λ e. (bytes_decides x y).1 (cc))
+
+pub rows_decide : (a b : GrowingFixed) → (are_same_rows a b ≡ true) ↔ (rows_of (fixed_slots a.lists) ≡ rows_of (fixed_slots b.lists))
+rows_decide a b = pointwise_decides row_decides (rows_of (fixed_slots a.lists)) (rows_of (fixed_slots b.lists))
+
+rows_equiv : IsEquivalence (pointwise (option_eq (pointwise nat_eq)))
+rows_equiv = lists_equiv (options_equiv nat_list_eq_equiv)
+
+pub rows_reflexive : (a : GrowingFixed) → are_same_rows a a ≡ true
+rows_reflexive a = rows_equiv.refl (rows_of (fixed_slots a.lists))
+
+pub rows_symmetric : (a b : GrowingFixed) → are_same_rows a b ≡ true → are_same_rows b a ≡ true
+rows_symmetric a b e = sym (rows_equiv.symm (rows_of (fixed_slots a.lists)) (rows_of (fixed_slots b.lists))) ∙ e
+
+pub rows_transitive : (a b c : GrowingFixed) → are_same_rows a b ≡ true → are_same_rows b c ≡ true → are_same_rows a c ≡ true
+rows_transitive a b c e f = rows_equiv.congr (rows_of (fixed_slots a.lists)) (rows_of (fixed_slots b.lists)) (rows_of (fixed_slots c.lists)) e ∙ f

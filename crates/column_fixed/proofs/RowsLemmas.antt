@@ -1,5 +1,5 @@
 -- Laws of lists that take rows, lose the last one, or take those of others.
-use Rattle.std.proofs.Common.{◌≡◌, ℕ, zero, suc, ◌+◌, ◌-◌, ◌*◌, ◌/◌, ◌<◌, ◌≤◌, Bool, true, false, not, List, [], ◌∷◌, ◌++◌, length, map, take, replicate, ◌==◌, Option, Some, None, Result, Ok, Err, inl, inr, refl, sym, ◌∙◌, ap, subst, arith}
+use Rattle.std.proofs.Common.{◌≡◌, ℕ, zero, suc, ◌+◌, ◌-◌, ◌*◌, ◌/◌, ◌<◌, ◌≤◌, Bool, true, false, not, List, [], ◌∷◌, ◌++◌, length, map, take, replicate, get_or, ◌==◌, Option, Some, None, Result, Ok, Err, inl, inr, refl, sym, ◌∙◌, ap, subst, arith}
 use Rattle.std.specs.Prelude.{◌&&◌, OnErr, min, option_map}
 use Rattle.std.specs.List.{list_all}
 use Rattle.std.specs.Iterator.{YieldsThen}
@@ -7,7 +7,7 @@ use Rattle.std.specs.Simd.{first_chunks}
 use Rattle.std.proofs.Math.Seq.{take-length}
 use Rattle.std.proofs.Math.Nat.{add-mul-div_right, mul-add-div_right}
 use Rattle.std.proofs.lemmas.Bool.Decides.{nat_tests}
-use Rattle.std.proofs.lemmas.List.{length-append, length-replicate, length-take-le, append-nil, append_assoc}
+use Rattle.std.proofs.lemmas.List.{length-append, length-replicate, length-take-le, append-nil, append_assoc, take_more}
 use Rattle.std.proofs.lemmas.Nat.{le-div, mul-le, div-add-mod'}
 use Rattle.column_base.specs.declared.errors.Cause.{Cause}
 use Rattle.column_base.specs.declared.errors.Cause.TheVariants.{WrongLength}
@@ -17,6 +17,7 @@ use Rattle.column_base.specs.Answers.{cause_if, ◌or_else◌}
 use Rattle.column_base.specs.Kinds.{Slot}
 use Rattle.column_base.specs.Pushes.{grown, growth_fault, GrowsBy, MadeBy}
 use Rattle.column_base.proofs.AnswersLemmas.{cause_none, first_none}
+use Rattle.column_base.proofs.PushesLemmas.{grown-one}
 use Rattle.column_storage.specs.Bits.{GrowingBits, pushed_flag, joined_flags, spare_beside}
 use Rattle.column_storage.specs.Slots.{flagged_slots}
 use Rattle.column_storage.specs.Validity.{AreFlagsOf}
@@ -104,6 +105,22 @@ slots_rows lists (row ∷ rows) sound none =
 pub width_rows : (lists : FixedLists) (rows : List (Option (List ℕ))) → (grown row_growth lists rows).width ≡ lists.width
 width_rows lists [] = refl
 width_rows lists (row ∷ rows) = width_rows (pushed_row lists row) rows ∙ width-row lists row
+
+-- a row of the width is not refused
+same_number : (n : ℕ) → n == n ≡ true
+same_number n = grind (arith, nat_tests)
+
+pub row_fits : (lists : FixedLists) (bytes : List ℕ) → length bytes ≡ lists.width → row_fault lists (Some bytes) ≡ None
+row_fits lists bytes same = rw same (ap (λ (b : Bool). cause_if (not b) WrongLength) (same_number lists.width))
+
+-- one row more of a list whose first rows were pushed
+pub rows_more : (empty lists next : FixedLists) (rows : List (Option (List ℕ))) (i : ℕ) (row : Option (List ℕ)) → i < length rows → row ≡ get_or rows i row
+    → lists ≡ grown row_growth empty (take i rows) → next ≡ pushed_row lists row → next ≡ grown row_growth empty (take (i + 1) rows)
+rows_more empty lists next rows i row within at is step =
+    step
+    ∙ ap (λ (a : FixedLists). pushed_row a row) is
+    ∙ sym (grown-one row_growth empty (take i rows) row)
+    ∙ ap (grown row_growth empty) (sym (take_more rows i row within ∙ ap (λ r. take i rows ++ r ∷ []) (sym at)))
 
 -- the fault of rows is of the width alone
 fit_one : (one : Bool) (rest : Bool) → (cause_if (not one) WrongLength or_else cause_if (not rest) WrongLength) ≡ cause_if (not (one && rest)) WrongLength
@@ -302,6 +319,8 @@ bytes_of_rooms validity width n room within =
     let most = beside_within validity (room / width) in
     let fits = mul-le n width (room / width) width (omega arith) (omega arith) in
     omega arith
+
+pub ruleset fitting = (row_fits)
 
 pub ruleset rooms = (room_of_bytes, more_room, bytes_of_rooms)
 

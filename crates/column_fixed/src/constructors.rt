@@ -1,19 +1,19 @@
 //! Slots of the items of an iterator or a slice: builders and arrays that are made of them. No call asks an iterator how
 //! many items it has.
 
-ghost use Rattle.std.specs.Prelude.{◌≡◌, ◌<◌, None, Err, OnErr};
+ghost use Rattle.std.specs.Prelude.{◌≡◌, ◌<◌, Some, None, Err, OnErr};
 ghost use Rattle.std.specs.Iterator.{IsFiniteIterable};
 ghost use Rattle.std.specs.Option.{option_copied};
 ghost use Rattle.std.specs.List.{concat};
 ghost use Rattle.column_base.specs.declared.errors.PolarsError.TheVariants.{NoMemory};
 ghost use Rattle.column_base.specs.Answers.{Answers};
-ghost use Rattle.column_base.specs.Pushes.{MadeBy, grown, growth_fault};
+ghost use Rattle.column_base.specs.Pushes.{MadeBy, grown};
 ghost use Rattle.column_fixed.specs.Slots.{fixed_lists};
-ghost use Rattle.column_fixed.specs.Rows.{no_slots, row_fault, row_growth, NoneIsRefused};
+ghost use Rattle.column_fixed.specs.Rows.{no_slots, pushed_row, row_fault, row_growth, NoneIsRefused};
 
 use crate::array::FixedSizeBinaryArray;
 use crate::builder::MutableFixedSizeBinaryArray;
-use column_base::{PolarsError, TryPush, with_each};
+use column_base::{PolarsError, with_each};
 use column_storage::Buffer;
 use std::alloc::Global;
 
@@ -40,16 +40,8 @@ impl MutableFixedSizeBinaryArray {
 
 // ---- rows that are arrays of bytes
 
-impl<'b, const N: usize> TryPush<&'b Option<[u8; N]>> for MutableFixedSizeBinaryArray {
-    ghost shown = { λ row. row.now };
-
-    fn try_push(&mut self, item: &'b Option<[u8; N]>) -> Result<(), PolarsError> {
-        match item {
-            Some(bytes) => MutableFixedSizeBinaryArray::try_push(self, Some(bytes.as_slice())),
-            None => self.push_null(),
-        }
-    }
-}
+// No object has more bytes, so that there is no row of more.
+const MOST_BYTES: usize = usize::MAX / 2;
 
 impl MutableFixedSizeBinaryArray {
     /// A slot of each row, of `N` bytes. The type of a row tells its length, so that none is refused.
@@ -60,11 +52,37 @@ impl MutableFixedSizeBinaryArray {
         slice: &[Option<[u8; N]>],
     ) -> Result<Self, PolarsError>
         requires { 0 < N }
-        ensures { Answers result (growth_fault row_growth (no_slots N) slice.now) (λ b. b.lists ≡ grown row_growth (no_slots N) slice.now) }
+        ensures { Answers result None (λ b. b.lists ≡ grown row_growth (no_slots N) slice.now) }
     {
         let mut builder = Self::new(alloc, N);
         builder.reserve(slice.len())?;
-        with_each(builder, slice.iter())
+        for row in slice {
+            if N > MOST_BYTES {
+                return Err(PolarsError::NoMemory);
+            }
+            builder.push_row(row)?;
+        }
+        Ok(builder)
+    }
+
+    // Adds a slot of a row whose type tells that it is of the width.
+    fn push_row<const N: usize>(&mut self, row: &Option<[u8; N]>) -> Result<(), PolarsError>
+        requires { self.old.lists.width ≡ N }
+        ensures { Answers result None (λ _. self.new.lists ≡ pushed_row self.old.lists row.now) }
+    {
+        match row {
+            Some(bytes) => self.push_array(bytes),
+            None => self.push_null(),
+        }
+    }
+
+    // Adds a valid slot of bytes whose type tells that they are as many as the width says.
+    #[tactic(auto, using(crate::proofs::RowsLemmas::fitting))]
+    fn push_array<const N: usize>(&mut self, bytes: &[u8; N]) -> Result<(), PolarsError>
+        requires { self.old.lists.width ≡ N }
+        ensures { Answers result None (λ _. self.new.lists ≡ pushed_row self.old.lists (Some bytes.now)) }
+    {
+        self.push(Some(bytes.as_slice()))
     }
 }
 
@@ -108,7 +126,7 @@ impl FixedSizeBinaryArray {
         slice: &[Option<[u8; N]>],
     ) -> Result<Self, PolarsError>
         requires { 0 < N }
-        ensures { Answers result (growth_fault row_growth (no_slots N) slice.now) (λ a. a ≡ grown row_growth (no_slots N) slice.now) }
+        ensures { Answers result None (λ a. a ≡ grown row_growth (no_slots N) slice.now) }
     {
         MutableFixedSizeBinaryArray::from(alloc, slice)?.freeze()
     }

@@ -66,3 +66,13 @@ impl PartialEq for MutableFixedSizeBinaryArray {
         self.has_rows_of(other)
     }
 }
+
+/// Equality of rows is an equivalence.
+impl Eq for MutableFixedSizeBinaryArray {
+    ghost use Rattle.std.specs.Cmp.{on_equiv};
+    ghost use Rattle.std.specs.Cmp.Lexicographic.{nat_list_eq_equiv, options_equiv, lists_equiv};
+    ghost use Rattle.column_base.specs.Slots.{rows_of};
+    ghost use Rattle.column_fixed.specs.Slots.{fixed_slots};
+
+    ghost laws = { on_equiv (λ b. rows_of (fixed_slots b.lists)) (lists_equiv (options_equiv nat_list_eq_equiv)) };
+}

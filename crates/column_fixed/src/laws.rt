@@ -1,15 +1,15 @@
 //! Laws of lists of one width: what their slots are, the law of slices, and how slots come and go in a builder.
 
-ghost use Rattle.std.specs.Prelude.{◌≡◌, ◌↔◌, ℕ, ◌+◌, ◌-◌, ◌*◌, ◌<◌, ◌≤◌, List, [], ◌∷◌, ◌++◌, length, map, take, not, Option, None};
+ghost use Rattle.std.specs.Prelude.{◌≡◌, ◌↔◌, ℕ, ◌+◌, ◌-◌, ◌*◌, ◌<◌, ◌≤◌, true, List, [], ◌∷◌, ◌++◌, length, map, take, not, Option, None};
 ghost use Rattle.std.specs.List.{list_all};
 ghost use Rattle.column_base.specs.declared.errors.Cause.TheVariants.{WrongLength};
 ghost use Rattle.column_base.specs.Answers.{cause_if};
 ghost use Rattle.column_base.specs.Lists.{sublist};
-ghost use Rattle.column_base.specs.Slots.{slot_at};
+ghost use Rattle.column_base.specs.Slots.{slot_at, rows_of};
 ghost use Rattle.column_base.specs.Pushes.{grown, growth_fault};
 ghost use Rattle.column_storage.specs.Bits.{flags_of};
 ghost use Rattle.column_fixed.specs.Slots.{FixedLists, fixed_count, fixed_slots, fixed_fault, sliced_fixed, AreSoundFixed};
-ghost use Rattle.column_fixed.specs.Rows.{pushed_row, row_fault, row_growth, slot_of, is_of_width, first_slots, joined_lists};
+ghost use Rattle.column_fixed.specs.Rows.{GrowingFixed, pushed_row, row_fault, row_growth, slot_of, is_of_width, first_slots, joined_lists, are_same_rows};
 
 /// Law of sound lists: no fault is found exactly where the lists are sound.
 pub fn no_fault_is_sound()
@@ -98,4 +98,13 @@ pub fn first_slots_are_first()
 pub fn joined_slots_are_both()
     ensures { (lists others : FixedLists) → AreSoundFixed lists → AreSoundFixed others → lists.width ≡ others.width
         → fixed_slots (joined_lists lists others) ≡ fixed_slots lists ++ fixed_slots others }
+{}
+
+/// Law of row equality: two builders are equal exactly where their rows are, so that equality is an equivalence whatever
+/// stands in null slots.
+pub fn equal_where_rows_are()
+    ensures rows { (a b : GrowingFixed) → (are_same_rows a b ≡ true) ↔ (rows_of (fixed_slots a.lists) ≡ rows_of (fixed_slots b.lists)) }
+    ensures reflexive { (a : GrowingFixed) → are_same_rows a a ≡ true }
+    ensures symmetric { (a b : GrowingFixed) → are_same_rows a b ≡ true → are_same_rows b a ≡ true }
+    ensures transitive { (a b c : GrowingFixed) → are_same_rows a b ≡ true → are_same_rows b c ≡ true → are_same_rows a c ≡ true }
 {}

@@ -13,9 +13,9 @@ mod types;
 pub use array::FixedSizeBinaryArray;
 pub use builder::MutableFixedSizeBinaryArray;
 pub use laws::{
-    bytes_of_a_slot, first_slots_are_first, flags_of_slice, joined_slots_are_both,
-    no_fault_is_sound, push_adds_a_slot, pushes_add_slots, pushes_keep_the_width,
-    rows_fit_together, same_lists_same_slots, slice_is_part, slices_are_one, slot_of_slice,
-    slots_are_counted, split_is_whole,
+    bytes_of_a_slot, equal_where_rows_are, first_slots_are_first, flags_of_slice,
+    joined_slots_are_both, no_fault_is_sound, push_adds_a_slot, pushes_add_slots,
+    pushes_keep_the_width, rows_fit_together, same_lists_same_slots, slice_is_part, slices_are_one,
+    slot_of_slice, slots_are_counted, split_is_whole,
 };
 pub use operations::FixedOperation;

@@ -1,6 +1,8 @@
 -- Laws of slots that are numbers: what follows of flags beside the bytes of the numbers.
 use Rattle.std.proofs.Common.{◌≡◌, ◌↔◌, ℕ, zero, suc, ◌+◌, ◌-◌, ◌<◌, ◌≤◌, Bool, true, false, not, List, [], ◌∷◌, ◌++◌, length, map, replicate, get_or, Option, None, Some, refl, sym, ◌∙◌, ap, subst, arith, count_by}
-use Rattle.std.specs.Prelude.{option_map, slice_get, unwrap_or}
+use Rattle.std.specs.Prelude.{◌^◌, option_map, slice_get, unwrap_or}
+use Rattle.std.specs.Int.{w8, w16, w32, w64, cast_signed, cast_unsigned}
+use Rattle.std.proofs.lemmas.Int.{of_z-to_z}
 use Rattle.std.proofs.lemmas.List.{length-map, length-replicate}
 use Rattle.column_base.specs.declared.datatypes.ArrowDataType.{ArrowDataType}
 use Rattle.column_base.specs.Kinds.{Slot}
@@ -96,6 +98,25 @@ module _ {T : Type 0} (bytes : T → List ℕ) where
       storage.flagged_slots-same a.flags b.flags (map bytes a.numbers) flags
       ∙ ap (λ (ns : List T). flagged_slots b.flags (map bytes ns)) numbers
 
+-- ---- the same bytes of another type
+
+pub slots_of_bytes : {X Y : Type 0} (bytes : X → List ℕ) (other : Y → List ℕ) (xs : List X) (ys : List Y) (flags : Option (List Bool)) → map bytes xs ≡ map other ys → number_slots bytes (number_lists xs flags) ≡ number_slots other (number_lists ys flags)
+unfolding number_slots
+slots_of_bytes bytes other xs ys flags same = ap (flagged_slots flags) same
+
+-- a signed number that was cast from an unsigned one is cast back to it
+pub cast_back_8 : (n : ℕ) → n < 2 ^ 8 → cast_unsigned w8 (cast_signed w8 n) ≡ n
+cast_back_8 n fits = of_z-to_z w8 n fits
+
+pub cast_back_16 : (n : ℕ) → n < 2 ^ 16 → cast_unsigned w16 (cast_signed w16 n) ≡ n
+cast_back_16 n fits = of_z-to_z w16 n fits
+
+pub cast_back_32 : (n : ℕ) → n < 2 ^ 32 → cast_unsigned w32 (cast_signed w32 n) ≡ n
+cast_back_32 n fits = of_z-to_z w32 n fits
+
+pub cast_back_64 : (n : ℕ) → n < 2 ^ 64 → cast_unsigned w64 (cast_signed w64 n) ≡ n
+cast_back_64 n fits = of_z-to_z w64 n fits
+
 -- ---- sound lists, and those without a fault
 
 pub number_count-sliced : {T : Type 0} (lists : NumberLists T) (from n : ℕ) → from + n ≤ number_count lists → number_count (sliced_numbers lists from n) ≡ n
@@ -180,3 +201,7 @@ pub ruleset numbers_of_slots = (bytes_at, values_of-number_slots)
 pub ruleset flags_of_part = (flags-sliced)
 
 pub ruleset slots_of_part = (number_slots-sliced)
+
+pub ruleset same_bytes = (slots_of_bytes)
+
+pub ruleset casts = (cast_back_8, cast_back_16, cast_back_32, cast_back_64)

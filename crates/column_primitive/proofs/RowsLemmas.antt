@@ -2,10 +2,12 @@
 use Rattle.std.proofs.Common.{◌≡◌, ℕ, zero, suc, ◌+◌, ◌-◌, ◌<◌, ◌≤◌, Bool, true, false, List, [], ◌∷◌, ◌++◌, length, map, take, replicate, get_or, Option, None, Some, refl, sym, ◌∙◌, ap, subst, arith, append_assoc}
 use Rattle.std.specs.Prelude.{slice_range, slice_index_or, option_map, slice_get, slice_set, min, is_some, if◌then◌else◌}
 use Rattle.std.proofs.Math.ListN.{length-set}
-use Rattle.std.proofs.lemmas.List.{length-append, length-map, length-replicate, length-take-le, map-append, append-nil, take_more}
+use Rattle.std.proofs.lemmas.List.{length-append, length-map, length-replicate, length-take-le, map-append, map-set, append-nil, take_more}
 use Rattle.column_base.specs.declared.datatypes.ArrowDataType.{ArrowDataType}
 use Rattle.std.proofs.lemmas.Bool.Decides.{nat_tests}
+use Rattle.column_base.specs.Kinds.{Slot}
 use Rattle.column_base.specs.Pushes.{grown, growth_fault}
+use Rattle.column_base.specs.Slots.{slots_by}
 use Rattle.column_storage.specs.Bits.{given_bits, optional_values, flags_of, frozen_flags, pushed_flag, joined_flags}
 use Rattle.column_storage.specs.Slots.{flagged_slots}
 use Rattle.column_storage.specs.Validity.{AreFlagsOf}
@@ -13,7 +15,7 @@ use Rattle.std.proofs.Math.Seq.{take-length}
 use Rattle.column_storage.proofs.RangesLemmas.{range-first, range-last, range-length}
 use Rattle.column_storage.proofs.GrowingFlagsLemmas.{are_flags-pushed, are_flags-first, are_flags-frozen, are_flags-joined, flagged_slots-pushed, flagged_slots-first, flagged_slots-frozen, flagged_slots-joined, flags-joined}
 use Rattle.column_primitive.specs.Numbers.{NumberLists, number_lists, number_count, number_slots, number_rows, number_at, AreSoundNumbers, NumberArray, number_array}
-use Rattle.column_primitive.specs.Rows.{no_numbers, stored, slot_of, pushed_row, row_growth, first_numbers, joined_array, constant_flags, changed_flag}
+use Rattle.column_primitive.specs.Rows.{no_numbers, stored, slot_of, pushed_row, row_growth, first_numbers, joined_array, constant_flags, extended_row, changed_flag, changed_row}
 use Rattle.column_primitive.proofs.NumbersLemmas.{flagged}
 
 -- ---- one slot more
@@ -117,6 +119,30 @@ sound_extended lists n x bit sound =
       flagged = subst (λ (m : ℕ). AreFlagsOf m (joined_flags (number_count lists) lists.flags n (constant_flags n bit))) (sym size) (are_flags-joined (number_count lists) lists.flags n (constant_flags n bit) sound.flagged (are_flags-constant n bit));
     }
 
+-- the slots of one row are as many times its slot
+slots_alike : (n : ℕ) (x : List ℕ) (bit : Bool) → slots_by (replicate n bit) (replicate n x) ≡ replicate n (record { valid = bit; bytes = x })
+slots_alike zero x bit = refl
+slots_alike (suc n) x bit = ap (λ (slots : List Slot). record { valid = bit; bytes = x } ∷ slots) (slots_alike n x bit)
+
+map_alike : {X Y : Type 0} (f : X → Y) (n : ℕ) (x : X) → map f (replicate n x) ≡ replicate n (f x)
+map_alike f zero x = refl
+map_alike f (suc n) x = ap (λ ys. f x ∷ ys) (map_alike f n x)
+
+slots-constant : {T : Type 0} (bytes : T → List ℕ) (n : ℕ) (x : T) (bit : Bool) → number_slots bytes (number_lists (replicate n x) (constant_flags n bit)) ≡ replicate n (record { valid = bit; bytes = bytes x })
+unfolding number_slots flagged_slots
+slots-constant bytes n x bit =
+    ap (λ (values : List (List ℕ)). slots_by (flags_of (length values) (constant_flags n bit)) values) (map_alike bytes n x)
+    ∙ ap (λ (m : ℕ). slots_by (flags_of m (constant_flags n bit)) (replicate n (bytes x))) (length-replicate n (bytes x))
+    ∙ ap (λ (flags : List Bool). slots_by flags (replicate n (bytes x))) (flags_of-constant n bit)
+    ∙ slots_alike n (bytes x) bit
+
+pub slots-extended : {T : Type 0} (bytes : T → List ℕ) (null : T) (array : NumberArray T) (n : ℕ) (row : Option T) → AreSoundNumbers array.lists → number_slots bytes (extended_row null array n row).lists ≡ number_slots bytes array.lists ++ replicate n (slot_of bytes null row)
+slots-extended bytes null array n row sound =
+    let others = number_lists (replicate n (stored null row)) (constant_flags n (is_some row)) in
+    ap (λ (m : ℕ). number_slots bytes (number_lists (array.lists.numbers ++ others.numbers) (joined_flags (number_count array.lists) array.lists.flags m others.flags))) (sym (length-replicate n (stored null row)))
+    ∙ slots-joined bytes array others sound
+    ∙ ap (λ (slots : List Slot). number_slots bytes array.lists ++ slots) (slots-constant bytes n (stored null row) (is_some row))
+
 -- ---- another row
 
 pub length_set : {X : Type 0} (xs : List X) (i : ℕ) (x : X) → length (slice_set xs i x) ≡ length xs
@@ -196,6 +222,40 @@ pub map_same : {X : Type 0} (xs : List X) → map (λ x. x) xs ≡ xs
 map_same [] = refl
 map_same (x ∷ xs) = ap (λ ys. x ∷ ys) (map_same xs)
 
+-- the slots of a row that was changed
+set_alike : (n i : ℕ) → slice_set (replicate n true) i true ≡ replicate n true
+set_alike zero i = refl
+set_alike (suc n) zero = refl
+set_alike (suc n) (suc i) = ap (λ bits. true ∷ bits) (set_alike n i)
+
+flags_of-changed : (n : ℕ) (flags : Option (List Bool)) (i : ℕ) (bit : Bool) → flags_of n (changed_flag n flags i bit) ≡ slice_set (flags_of n flags) i bit
+flags_of-changed n None i true = sym (set_alike n i)
+flags_of-changed n None i false = refl
+flags_of-changed n (Some bits) i true = refl
+flags_of-changed n (Some bits) i false = refl
+
+slots_by-changed : (flags : List Bool) (values : List (List ℕ)) (i : ℕ) (bit : Bool) (bytes : List ℕ) → slots_by (slice_set flags i bit) (slice_set values i bytes) ≡ slice_set (slots_by flags values) i (record { valid = bit; bytes = bytes })
+slots_by-changed [] values i bit bytes = refl
+slots_by-changed (flag ∷ flags) [] zero bit bytes = refl
+slots_by-changed (flag ∷ flags) [] (suc i) bit bytes = refl
+slots_by-changed (flag ∷ flags) (value ∷ values) zero bit bytes = refl
+slots_by-changed (flag ∷ flags) (value ∷ values) (suc i) bit bytes = ap (λ (slots : List Slot). record { valid = flag; bytes = value } ∷ slots) (slots_by-changed flags values i bit bytes)
+
+pub slots-changed : {T : Type 0} (bytes : T → List ℕ) (null : T) (array : NumberArray T) (i : ℕ) (row : Option T) → number_slots bytes (changed_row null array i row).lists ≡ slice_set (number_slots bytes array.lists) i (slot_of bytes null row)
+unfolding number_slots flagged_slots
+slots-changed bytes null array i row =
+    let lists = array.lists in
+    let flags = changed_flag (number_count lists) lists.flags i (is_some row) in
+    let values = map bytes lists.numbers in
+    let count : length (map bytes lists.numbers) ≡ number_count lists = length-map lists.numbers bytes in
+    ap (λ (vs : List (List ℕ)). slots_by (flags_of (length vs) flags) vs) (map-set bytes lists.numbers i (stored null row))
+    ∙ ap (λ (n : ℕ). slots_by (flags_of n flags) (slice_set values i (bytes (stored null row)))) (length_set values i (bytes (stored null row)) ∙ count)
+    ∙ ap (λ (bits : List Bool). slots_by bits (slice_set values i (bytes (stored null row)))) (flags_of-changed (number_count lists) lists.flags i (is_some row))
+    ∙ slots_by-changed (flags_of (number_count lists) lists.flags) values i (is_some row) (bytes (stored null row))
+    ∙ ap (λ (n : ℕ). slice_set (slots_by (flags_of n lists.flags) values) i (slot_of bytes null row)) (sym count)
+
+pub ruleset changed_slots = (slots-changed)
+
 pub ruleset row_places = (row-first, row-last, rows-left, rows_whole)
 
 pub ruleset rows = (sound_more)
@@ -232,12 +292,15 @@ pub ruleset joined_slots = (slots-joined)
 
 pub ruleset frozen_slots = (slots-frozen)
 
+pub ruleset extended_slots = (slots-extended)
+
 -- ---- casts
 
--- one more of a list whose elements are each made another
-pub recast_more : {X Y : Type 0} (f : X → Y) (xs : List X) (i : ℕ) (x : X) (new old : List Y) → i < length xs → x ≡ get_or xs i x → new ≡ old ++ f x ∷ [] → old ≡ map f (take i xs) → new ≡ map f (take (i + 1) xs)
-recast_more f xs i x new old within at is so =
-    is
-    ∙ ap (λ ys. ys ++ f x ∷ []) so
-    ∙ sym (map-append f (take i xs) (x ∷ []))
-    ∙ ap (map f) (sym (take_more xs i x within ∙ ap (λ y. take i xs ++ y ∷ []) (sym at)))
+-- one more of a list whose elements are each made another with the same bytes
+pub recast_more : {X Y : Type 0} (f : X → Y) (bytes : X → List ℕ) (other : Y → List ℕ) (xs : List X) (i : ℕ) (x : X) (y : Y) (new old : List Y) → i < length xs → x ≡ get_or xs i x → new ≡ old ++ y ∷ [] → y ≡ f x → other y ≡ bytes x
+    → (old ≡ map f (take i xs)) × (map other old ≡ map bytes (take i xs)) → (new ≡ map f (take (i + 1) xs)) × (map other new ≡ map bytes (take (i + 1) xs))
+recast_more f bytes other xs i x y new old within at more is same so =
+    let all : take i xs ++ x ∷ [] ≡ take (i + 1) xs = sym (take_more xs i x within ∙ ap (λ z. take i xs ++ z ∷ []) (sym at)) in (
+      more ∙ ap (λ z. old ++ z ∷ []) is ∙ ap (λ ys. ys ++ f x ∷ []) so.0 ∙ sym (map-append f (take i xs) (x ∷ [])) ∙ ap (map f) all,
+      ap (map other) more ∙ map-append other old (y ∷ []) ∙ ap (λ z. map other old ++ z ∷ []) same ∙ ap (λ zs. zs ++ bytes x ∷ []) so.1 ∙ sym (map-append bytes (take i xs) (x ∷ [])) ∙ ap (map bytes) all,
+    )

@@ -3,11 +3,13 @@ use Rattle.std.specs.Prelude.{◌≡◌, ℕ, Bool, true, List, [], ◌∷◌, �
 use Rattle.std.specs.List.{refill}
 use Rattle.std.specs.Borrow.{MutBor}
 use Rattle.std.specs.Fn.{Shared}
+use Rattle.std.specs.Option.{option_eq}
+use Rattle.std.specs.Cmp.Lexicographic.{pointwise}
 use Rattle.column_base.specs.declared.datatypes.ArrowDataType.{ArrowDataType}
 use Rattle.column_base.specs.Kinds.{Slot}
 use Rattle.column_base.specs.Pushes.{Growth}
 use Rattle.column_storage.specs.Bits.{flags_of, frozen_flags, pushed_flag, joined_flags}
-use Rattle.column_primitive.specs.Numbers.{NumberLists, number_lists, number_count, NumberArray, number_array}
+use Rattle.column_primitive.specs.Numbers.{NumberLists, number_lists, number_count, number_rows, NumberArray, number_array}
 
 -- This library's own: a growing array, and how many more slots it takes without further memory.
 pub record GrowingNumbers (T : Type 0) : Type 0 where
@@ -85,6 +87,10 @@ rewritten old numbers = record { array = with_numbers old.array (refill (number_
 -- other flags beside the same numbers, under the same data type
 abbrev pub with_flags : {T : Type 0} → NumberArray T → Option (List Bool) → NumberArray T
 with_flags array flags = number_array array.dtype (number_lists array.lists.numbers flags)
+
+-- rows are equal where they are as many, and at each place both null or equal numbers
+abbrev pub are_same_rows : {T : Type 0} → (T → T → Bool) → GrowingNumbers T → GrowingNumbers T → Bool
+are_same_rows same a b = pointwise (option_eq same) (number_rows a.array.lists) (number_rows b.array.lists)
 
 -- A call of a closure by `&`, at a `&mut` to the old numbers, may leave the new ones.
 pub record LeavesNumbers {F T : Type 0} (call : Shared F (MutBor (List T) × Unit {0}) (Unit {0} × (MutBor (List T) × Unit {0}))) (f : F) (old new : List T) : Type 0 where

@@ -35,6 +35,15 @@ impl<T: NativeType> PartialEq for MutablePrimitiveArray<T> {
     }
 }
 
+/// Equality of rows is an equivalence.
+impl<T: NativeType> Eq for MutablePrimitiveArray<T> {
+    ghost use Rattle.std.specs.Cmp.{on_equiv};
+    ghost use Rattle.std.specs.Cmp.Lexicographic.{options_equiv, lists_equiv};
+    ghost use Rattle.column_primitive.specs.Numbers.{number_rows};
+
+    ghost laws = { on_equiv (λ b. number_rows b.array.lists) (lists_equiv (options_equiv T.Eq.laws)) };
+}
+
 // Whether two rows are equal.
 fn is_same_row<T: NativeType>(row: Option<T>, other: Option<T>) -> bool
     ensures { result ≡ option_eq T.eq row other }

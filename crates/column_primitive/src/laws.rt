@@ -1,13 +1,16 @@
 //! Laws of lists of numbers: what their slots are, and the law of slices. They hold whatever bytes a number has.
 
-ghost use Rattle.std.specs.Prelude.{◌≡◌, ◌↔◌, ℕ, ◌+◌, ◌-◌, ◌<◌, ◌≤◌, ◌^◌, ◌++◌, ◌∷◌, [], List, length, map, take, option_map, slice_get, Option, None, Some};
+ghost use Rattle.std.specs.Prelude.{◌≡◌, ◌↔◌, ℕ, ◌+◌, ◌-◌, ◌<◌, ◌≤◌, ◌^◌, ◌++◌, ◌∷◌, [], true, List, length, map, take, replicate, option_map, slice_get, slice_set, Option, None, Some};
+ghost use Rattle.std.specs.List.{All};
 ghost use Rattle.column_base.specs.declared.datatypes.ArrowDataType.{ArrowDataType};
 ghost use Rattle.column_base.specs.Pushes.{grown, growth_fault};
 ghost use Rattle.column_base.specs.Lists.{sublist};
 ghost use Rattle.column_base.specs.Slots.{slot_at, rows_of, values_of};
 ghost use Rattle.column_storage.specs.Bits.{flags_of};
 ghost use Rattle.column_primitive.specs.Numbers.{NumberLists, number_count, number_slots, number_fault, number_rows, AreSoundNumbers, sliced_numbers, number_lists, NumberArray, number_array};
-ghost use Rattle.column_primitive.specs.Rows.{slot_of, pushed_row, row_growth, first_numbers, frozen_array, joined_array, no_numbers};
+ghost use Rattle.column_primitive.specs.Rows.{GrowingNumbers, slot_of, pushed_row, row_growth, first_numbers, frozen_array, joined_array, extended_row, changed_row, no_numbers, are_same_rows};
+
+use column_base::NativeType;
 
 /// Law of sound lists: no fault is found exactly where the lists are sound.
 #[tactic(auto, using(crate::proofs::NumbersLemmas::no_fault_is_sound))]
@@ -102,6 +105,20 @@ pub fn joined_slots_are_both<T>()
         → number_slots bytes (joined_array array others).lists ≡ number_slots bytes array.lists ++ number_slots bytes others }
 {}
 
+/// Slots of one row that are added are as many times the slot of the row.
+#[tactic(auto, using(crate::proofs::RowsLemmas::extended_slots))]
+pub fn constant_slots_are_alike<T>()
+    ensures { (bytes : T → List ℕ) (null : T) (array : NumberArray T) (n : ℕ) (row : Option T) → AreSoundNumbers array.lists
+        → number_slots bytes (extended_row null array n row).lists ≡ number_slots bytes array.lists ++ replicate n (slot_of bytes null row) }
+{}
+
+/// A slot that is made another row is the slot of the row, and each other slot stays.
+#[tactic(auto, using(crate::proofs::RowsLemmas::changed_slots))]
+pub fn set_changes_a_slot<T>()
+    ensures { (bytes : T → List ℕ) (null : T) (array : NumberArray T) (i : ℕ) (row : Option T)
+        → number_slots bytes (changed_row null array i row).lists ≡ slice_set (number_slots bytes array.lists) i (slot_of bytes null row) }
+{}
+
 /// A frozen array has the same slots.
 #[tactic(auto, using(crate::proofs::RowsLemmas::frozen_slots))]
 pub fn frozen_slots_are_same<T>()
@@ -119,4 +136,16 @@ pub fn rows_are_never_refused<T>()
 #[tactic(auto, using(crate::proofs::RowsLemmas::values_are_numbers))]
 pub fn values_need_no_validity<T>()
     ensures { (null : T) (dtype : ArrowDataType) (values : List T) → grown (row_growth null) (no_numbers dtype) (map (λ value. Some value) values) ≡ number_array dtype (number_lists values None) }
+{}
+
+/// Law of row equality: two builders are equal exactly where their rows are, so that equality is an equivalence whatever
+/// stands in null slots. Of numbers that are values of the type these are the rows of the slots.
+pub fn equal_where_rows_are<T: NativeType>()
+    ensures rows { (a b : GrowingNumbers T) → (are_same_rows T.eq a b ≡ true) ↔ (number_rows a.array.lists ≡ number_rows b.array.lists) }
+    ensures bytes { (a b : GrowingNumbers T) → AreSoundNumbers a.array.lists → AreSoundNumbers b.array.lists
+        → All T.is_value a.array.lists.numbers → All T.is_value b.array.lists.numbers
+        → (are_same_rows T.eq a b ≡ true) ↔ (rows_of (number_slots T.le_bytes a.array.lists) ≡ rows_of (number_slots T.le_bytes b.array.lists)) }
+    ensures reflexive { (a : GrowingNumbers T) → are_same_rows T.eq a a ≡ true }
+    ensures symmetric { (a b : GrowingNumbers T) → are_same_rows T.eq a b ≡ true → are_same_rows T.eq b a ≡ true }
+    ensures transitive { (a b c : GrowingNumbers T) → are_same_rows T.eq a b ≡ true → are_same_rows T.eq b c ≡ true → are_same_rows T.eq a c ≡ true }
 {}

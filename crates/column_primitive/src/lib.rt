@@ -25,10 +25,11 @@ pub use builder::MutablePrimitiveArray;
 pub use into_iter::PrimitiveIntoIter;
 pub use iterator::{MutablePrimitiveValuesIter, PrimitiveValuesIter};
 pub use laws::{
-    first_slots_are_first, flags_of_slice, frozen_slots_are_same, joined_slots_are_both,
-    no_fault_is_sound, push_adds_a_slot, rows_are_never_refused, same_lists_same_slots,
-    slice_is_part, slices_are_one, slot_is_number, slot_of_slice, slots_are_counted,
-    slots_are_rows, split_is_whole, values_need_no_validity,
+    constant_slots_are_alike, equal_where_rows_are, first_slots_are_first, flags_of_slice,
+    frozen_slots_are_same, joined_slots_are_both, no_fault_is_sound, push_adds_a_slot,
+    rows_are_never_refused, same_lists_same_slots, set_changes_a_slot, slice_is_part,
+    slices_are_one, slot_is_number, slot_of_slice, slots_are_counted, slots_are_rows,
+    split_is_whole, values_need_no_validity,
 };
 pub use operations::NumberOperation;
 pub use types::check_number_type;
