@@ -3,7 +3,7 @@
 use column_base::{ArrowDataType, PolarsError};
 use column_checks::{Flags, bitmap};
 use column_fixed::{FixedSizeBinaryArray, MutableFixedSizeBinaryArray};
-use column_storage::Buffer;
+use column_storage::{Buffer, MutableBitmap};
 use std::alloc::Global;
 
 /// Byte strings of two bytes.
@@ -35,4 +35,27 @@ pub fn pair(alloc: Global) -> Result<MutableFixedSizeBinaryArray, PolarsError> {
     builder.try_push(Some(&[1, 2]))?;
     builder.push_null()?;
     Ok(builder)
+}
+
+/// The flags of a builder.
+pub fn grown(alloc: Global, flags: Flags<'_>) -> Result<Option<MutableBitmap>, PolarsError> {
+    let Some(flags) = flags else {
+        return Ok(None);
+    };
+    let mut bits = MutableBitmap::new(alloc);
+    for flag in flags {
+        bits.push(*flag)?;
+    }
+    Ok(Some(bits))
+}
+
+/// The builder of these lists.
+pub fn of_lists(
+    alloc: Global,
+    dtype: ArrowDataType,
+    values: &[u8],
+    flags: Flags<'_>,
+) -> Result<MutableFixedSizeBinaryArray, PolarsError> {
+    let bits = grown(alloc, flags)?;
+    MutableFixedSizeBinaryArray::try_new(dtype, Vec::from_slice(alloc, values)?, bits)
 }
