@@ -1,0 +1,105 @@
+//! The tests: each asserts what a check of `checks` says.
+
+use crate::checks::{
+    blocks_are_finished, buffers_are_pushed, buffers_are_taken_once, copy_goes_on,
+    flags_are_changed, greatest_room_is_kept, rows_are_extended, rows_are_pushed, rule_gives,
+    slots_are_changed, views_are_given,
+};
+use column_blocks::{
+    DEFAULT_BLOCK_SIZE, MAX_EXP_BLOCK_SIZE, blocks_stay_sound, calls_append,
+    stored_view_says_its_bytes, taken_buffers_stay, taken_view_says_the_same, views_stay,
+};
+use std::test::Fail;
+
+#[test]
+fn bytes_stand_in_blocks(rt: HostRuntime) -> Result<(), Fail> {
+    let table: [(&[usize], &[usize]); 12] = [
+        (&[], &[]),
+        // short values stand in their views
+        (&[0, 12], &[]),
+        (&[13], &[13]),
+        // filled exactly, and passed by one byte
+        (&[4_096, 4_096], &[8_192]),
+        (&[4_096, 4_096, 13], &[8_192, 13]),
+        (&[4_096, 4_097], &[4_096, 4_097]),
+        (&[8_192, 13], &[8_192, 13]),
+        // the next room is twice the last
+        (&[8_192, 13, 16_371, 13], &[8_192, 16_384, 13]),
+        (&[8_192, 13, 16_372], &[8_192, 13, 16_372]),
+        // a value of more than the room
+        (&[8_193, 13], &[8_193, 13]),
+        (&[8_193, 13, 16_373, 13], &[8_193, 16_386, 13]),
+        (&[13, 40_000, 13], &[13, 40_000, 13]),
+    ];
+    for (lengths, wanted) in table {
+        let given = rule_gives(rt.alloc(), lengths, wanted)?;
+        assert!(rt; given, "{lengths:?}");
+    }
+    Ok(())
+}
+
+#[test]
+fn rooms_double_up_to_the_greatest(rt: HostRuntime) -> Result<(), Fail> {
+    // two values fill each block
+    let doubled = rule_gives(
+        rt.alloc(),
+        &[
+            4_096, 4_096, 8_192, 8_192, 16_384, 16_384, 32_768, 32_768, 65_536, 65_536, 13,
+        ],
+        &[8_192, 16_384, 32_768, 65_536, 131_072, 13],
+    )?;
+    let greatest = greatest_room_is_kept(rt.alloc())?;
+    assert!(rt; doubled && greatest);
+    assert!(rt; DEFAULT_BLOCK_SIZE == 8_192 && MAX_EXP_BLOCK_SIZE == 16_777_216);
+    Ok(())
+}
+
+#[test]
+fn views_name_their_bytes(rt: HostRuntime) -> Result<(), Fail> {
+    let given = views_are_given(rt.alloc())?;
+    let copied = copy_goes_on(rt.alloc())?;
+    assert!(rt; given && copied);
+    Ok(())
+}
+
+#[test]
+fn buffers_are_finished(rt: HostRuntime) -> Result<(), Fail> {
+    let finished = blocks_are_finished(rt.alloc())?;
+    let pushed = buffers_are_pushed(rt.alloc())?;
+    assert!(rt; finished && pushed);
+    Ok(())
+}
+
+#[test]
+fn rows_grow(rt: HostRuntime) -> Result<(), Fail> {
+    let pushed = rows_are_pushed(rt.alloc())?;
+    let extended = rows_are_extended(rt.alloc())?;
+    assert!(rt; pushed && extended);
+    Ok(())
+}
+
+#[test]
+fn rows_change(rt: HostRuntime) -> Result<(), Fail> {
+    let changed = slots_are_changed(rt.alloc())?;
+    let flagged = flags_are_changed(rt.alloc())?;
+    assert!(rt; changed && flagged);
+    Ok(())
+}
+
+#[test]
+fn sources_are_taken_once(rt: HostRuntime) -> Result<(), Fail> {
+    let once = buffers_are_taken_once(rt.alloc())?;
+    assert!(rt; once);
+    Ok(())
+}
+
+#[test]
+fn the_laws_are_there(rt: HostRuntime) {
+    calls_append();
+    blocks_stay_sound();
+    stored_view_says_its_bytes();
+    views_stay();
+    taken_view_says_the_same();
+    taken_buffers_stay();
+    assert!(rt; DEFAULT_BLOCK_SIZE < MAX_EXP_BLOCK_SIZE);
+}
