@@ -179,25 +179,27 @@ fn value_builders_take_from_iterators(rt: HostRuntime) -> Result<(), Fail> {
     Ok(())
 }
 
+// rows, and what is kept of them
+const KEPT: [(&[Row<'_>], &[i32], &[u8], Flags<'_>); 4] = [
+    (&[Err(9), Ok(None), Ok(Some("there"))], &[0], b"", None),
+    (&[Ok(Some("hi")), Err(9), Err(8)], &[0, 2], b"hi", None),
+    (
+        &[Ok(Some("hi")), Ok(None), Err(9)],
+        &[0, 2, 2],
+        b"hi",
+        Some(&[true, false]),
+    ),
+    (
+        &[Ok(Some("hi")), Ok(None), Ok(Some("there"))],
+        &[0, 2, 2, 7],
+        b"hithere",
+        Some(&[true, false, true]),
+    ),
+];
+
 #[test]
 fn rows_before_an_error_are_kept(rt: HostRuntime) -> Result<(), Fail> {
-    let table: [(&[Row<'_>], &[i32], &[u8], Flags<'_>); 4] = [
-        (&[Err(9), Ok(None), Ok(Some("there"))], &[0], b"", None),
-        (&[Ok(Some("hi")), Err(9), Err(8)], &[0, 2], b"hi", None),
-        (
-            &[Ok(Some("hi")), Ok(None), Err(9)],
-            &[0, 2, 2],
-            b"hi",
-            Some(&[true, false]),
-        ),
-        (
-            &[Ok(Some("hi")), Ok(None), Ok(Some("there"))],
-            &[0, 2, 2, 7],
-            b"hithere",
-            Some(&[true, false, true]),
-        ),
-    ];
-    for (rows, offsets, values, flags) in table {
+    for (rows, offsets, values, flags) in KEPT {
         let fails = offsets.len() < 4;
         assert!(rt;
             rows_before_are(rt.alloc(), rows, fails, offsets, values, flags)?
@@ -249,11 +251,14 @@ fn builders_are_read(rt: HostRuntime) -> Result<(), Fail> {
 #[test]
 fn flags_are_changed(rt: HostRuntime) -> Result<(), Fail> {
     let some: Flags<'_> = Some(&[false, true]);
-    assert!(rt; flags_are_turned(rt.alloc(), some, Some(&[true, false]))?);
-    assert!(rt; flags_are_turned(rt.alloc(), None, None)?);
-    for (flags, others) in [(some, None), (None, some)] {
-        assert!(rt; flags_are_other(rt.alloc(), flags, others)?, "{others:?}");
-        assert!(rt; flags_are_set(rt.alloc(), flags, others)?, "{others:?}");
+    let turned: Flags<'_> = Some(&[true, false]);
+    for (flags, turned, others) in [(some, turned, None), (None, None, some)] {
+        assert!(rt;
+            flags_are_turned(rt.alloc(), flags, turned)?
+                && flags_are_other(rt.alloc(), flags, others)?
+                && flags_are_set(rt.alloc(), flags, others)?,
+            "{flags:?}"
+        );
     }
     Ok(())
 }
