@@ -1,17 +1,17 @@
-//! The tests of the builders: each asserts what a check of `builder_checks` says.
+//! The tests of the builders: each asserts what a check of `builder_checks`, `value_checks` or `item_checks` says.
 
 use crate::builder_checks::{
-    MoreRows, OfRows, OfValues, ValueCall, array_of_fallible_is, array_of_owned_rows_is,
-    array_of_rows_is, array_of_slice_is, array_of_values_is, both_are, both_values_are,
-    builder_of_owned_rows_is, builder_of_rows_is, builder_of_slice_is, builder_of_values_is,
-    builders_are_asked, empty_pop_gives, first_error_keeps_none, flags_are_other, flags_are_turned,
-    frozen_is, frozen_values_are, frozen_without_nulls_is, lists_are_told, mutable_is,
-    no_error_keeps_all, nullable_is, nulls_leave, pops_give, pushes_leave, room_is_made,
-    rows_are_added, rows_are_read, third_error_keeps_two, tries_leave, value_builder_is,
-    value_builder_of_slice_is, value_builder_takes, value_builders_are_asked, value_lists_are_told,
-    value_pops_give, value_pushes_leave, values_are_added, values_are_read,
+    self, both_are, flags_are_other, flags_are_set, flags_are_turned, lists_are_told, nulls_leave,
+    pops_give, pushes_leave, tries_leave,
 };
-use crate::cases::four;
+use crate::item_checks::{
+    OfRows, OfValues, Row, Value, ValueCall, array_of_items_is, array_of_rows_is,
+    array_of_values_is, builder_of_call_is, builder_of_items_is, builder_of_rows_is,
+    builder_of_values_is, operations_are_replayed, owned_rows_are, owned_values_are,
+    rows_are_added, rows_before_are, value_builder_of_items_is, values_are_added, values_are_taken,
+    values_before_are,
+};
+use crate::value_checks;
 use column_base::{ArrowDataType, Cause};
 use column_binary::{
     first_slots_are_first, frozen_slots_are_same, joined_slots_are_both, push_adds_a_slot,
@@ -21,7 +21,7 @@ use column_checks::Flags;
 use std::test::Fail;
 
 #[test]
-fn the_first_refusal_of_lists_is_told(rt: HostRuntime) -> Result<(), Fail> {
+fn the_first_refusal_of_lists_is_told(rt: HostRuntime) {
     let (binary, large) = (ArrowDataType::Binary, ArrowDataType::LargeBinary);
     let exceeds = Some(Cause::OffsetsExceedValues);
     let not_full = Some(Cause::OffsetsNotFull);
@@ -46,20 +46,44 @@ fn the_first_refusal_of_lists_is_told(rt: HostRuntime) -> Result<(), Fail> {
             "{values:?}"
         );
     }
-    assert!(rt; value_lists_are_told(rt.alloc(), b"abc", binary, None)?);
-    assert!(rt; value_lists_are_told(rt.alloc(), b"ab", large, exceeds)?);
-    assert!(rt; value_lists_are_told(rt.alloc(), b"abcd", large, not_full)?);
-    assert!(rt; value_lists_are_told(rt.alloc(), b"abc", large, dtype)?);
+}
+
+#[test]
+fn the_first_refusal_of_values_is_told(rt: HostRuntime) -> Result<(), Fail> {
+    let (binary, large) = (ArrowDataType::Binary, ArrowDataType::LargeBinary);
+    let table: [(&[u8], ArrowDataType, Option<Cause>); 4] = [
+        (b"abc", binary, None),
+        (b"ab", large, Some(Cause::OffsetsExceedValues)),
+        (b"abcd", large, Some(Cause::OffsetsNotFull)),
+        (b"abc", large, Some(Cause::WrongDataType)),
+    ];
+    for (values, dtype, cause) in table {
+        assert!(rt;
+            value_checks::lists_are_told(rt.alloc(), values, dtype, cause)?,
+            "{values:?}"
+        );
+    }
     Ok(())
 }
 
 #[test]
 fn pushes_leave_their_slots(rt: HostRuntime) -> Result<(), Fail> {
     assert!(rt; pushes_leave(rt.alloc())?);
-    assert!(rt; value_pushes_leave(rt.alloc())?);
+    assert!(rt; value_checks::pushes_leave(rt.alloc())?);
     assert!(rt; tries_leave(rt.alloc())?);
-    for (before, after) in [(false, false), (false, true), (true, false), (true, true)] {
-        assert!(rt; nulls_leave(rt.alloc(), before, after)?, "{before} {after}");
+    Ok(())
+}
+
+#[test]
+fn a_null_makes_the_validity(rt: HostRuntime) -> Result<(), Fail> {
+    let table: [([Option<&[u8]>; 2], Flags<'_>); 4] = [
+        ([Some(&[7]), Some(&[8])], None),
+        ([Some(&[7]), None], Some(&[true, false])),
+        ([None, Some(&[8])], Some(&[false, true])),
+        ([None, None], Some(&[false, false])),
+    ];
+    for (rows, flags) in table {
+        assert!(rt; nulls_leave(rt.alloc(), rows, flags)?, "{flags:?}");
     }
     Ok(())
 }
@@ -67,8 +91,7 @@ fn pushes_leave_their_slots(rt: HostRuntime) -> Result<(), Fail> {
 #[test]
 fn pops_give_the_rows(rt: HostRuntime) -> Result<(), Fail> {
     assert!(rt; pops_give(rt.alloc())?);
-    assert!(rt; value_pops_give(rt.alloc())?);
-    assert!(rt; empty_pop_gives(rt.alloc())?);
+    assert!(rt; value_checks::pops_give(rt.alloc())?);
     Ok(())
 }
 
@@ -79,38 +102,36 @@ fn slots_of_two_are_in_order(rt: HostRuntime) -> Result<(), Fail> {
     assert!(rt; both_are(rt.alloc(), some, None, Some(&[true, false, true, true]))?);
     assert!(rt; both_are(rt.alloc(), None, some, Some(&[true, true, true, false]))?);
     assert!(rt; both_are(rt.alloc(), some, some, Some(&[true, false, true, false]))?);
-    assert!(rt; both_values_are(rt.alloc())?);
+    assert!(rt; value_checks::both_are(rt.alloc())?);
     Ok(())
 }
 
 #[test]
 fn arrays_have_the_slots(rt: HostRuntime) -> Result<(), Fail> {
-    assert!(rt; frozen_is(rt.alloc())?);
-    assert!(rt; frozen_without_nulls_is(rt.alloc())?);
-    assert!(rt; frozen_values_are(rt.alloc())?);
-    assert!(rt; nullable_is(rt.alloc())?);
-    assert!(rt; mutable_is(four(rt.alloc())?, rt.alloc())?);
+    assert!(rt; builder_checks::arrays_are(rt.alloc())?);
+    assert!(rt; value_checks::arrays_are(rt.alloc())?);
     Ok(())
 }
+
+// no number of items, one that is too small, the right one, and one that is too great
+const TOLD: [usize; 4] = [0, 1, 3, usize::MAX];
 
 #[test]
 fn rows_are_taken_from_iterators(rt: HostRuntime) -> Result<(), Fail> {
     for call in [
-        OfRows::Iter,
-        OfRows::TryIter,
+        OfRows::Plain,
+        OfRows::Try,
         OfRows::Trusted,
         OfRows::TrustedUnchecked,
     ] {
-        assert!(rt; builder_of_rows_is(rt.alloc(), call)?, "{call:?}");
-        assert!(rt; array_of_rows_is(rt.alloc(), call)?, "{call:?}");
-    }
-    for call in [
-        MoreRows::Extend,
-        MoreRows::TryExtend,
-        MoreRows::Trusted,
-        MoreRows::TrustedUnchecked,
-    ] {
-        assert!(rt; rows_are_added(rt.alloc(), call)?, "{call:?}");
+        for least in TOLD {
+            assert!(rt;
+                builder_of_rows_is(rt.alloc(), call, least)?
+                    && array_of_rows_is(rt.alloc(), call, least)?
+                    && rows_are_added(rt.alloc(), call, least)?,
+                "{call:?} {least}"
+            );
+        }
     }
     Ok(())
 }
@@ -122,64 +143,121 @@ fn values_are_taken_from_iterators(rt: HostRuntime) -> Result<(), Fail> {
         OfValues::Trusted,
         OfValues::TrustedUnchecked,
     ] {
-        assert!(rt; builder_of_values_is(rt.alloc(), call)?, "{call:?}");
-        assert!(rt; values_are_added(rt.alloc(), call)?, "{call:?}");
-        assert!(rt; array_of_values_is(rt.alloc(), call)?, "{call:?}");
+        for least in TOLD {
+            assert!(rt;
+                builder_of_values_is(rt.alloc(), call, least)?
+                    && array_of_values_is(rt.alloc(), call, least)?
+                    && values_are_added(rt.alloc(), call, least)?,
+                "{call:?} {least}"
+            );
+        }
     }
+    Ok(())
+}
+
+#[test]
+fn value_builders_take_from_iterators(rt: HostRuntime) -> Result<(), Fail> {
     for call in [
-        ValueCall::Iter,
-        ValueCall::TryIter,
+        ValueCall::Plain,
+        ValueCall::Try,
         ValueCall::Values,
         ValueCall::TrustedValues,
         ValueCall::TrustedValuesUnchecked,
         ValueCall::Trusted,
         ValueCall::TrustedUnchecked,
     ] {
-        assert!(rt; value_builder_is(rt.alloc(), call)?, "{call:?}");
-        assert!(rt; value_builder_takes(rt.alloc(), call)?, "{call:?}");
+        for least in TOLD {
+            assert!(rt;
+                builder_of_call_is(rt.alloc(), call, least)?
+                    && values_are_taken(rt.alloc(), call, least)?,
+                "{call:?} {least}"
+            );
+        }
+    }
+    Ok(())
+}
+
+// rows, and what is kept of them
+const KEPT: [(&[Row<'_>], &[i32], &[u8], Flags<'_>); 4] = [
+    (&[Err(9), Ok(None), Ok(Some(&[3]))], &[0], b"", None),
+    (&[Ok(Some(&[1, 2])), Err(9), Err(8)], &[0, 2], &[1, 2], None),
+    (
+        &[Ok(Some(&[1, 2])), Ok(None), Err(9)],
+        &[0, 2, 2],
+        &[1, 2],
+        Some(&[true, false]),
+    ),
+    (
+        &[Ok(Some(&[1, 2])), Ok(None), Ok(Some(&[3]))],
+        &[0, 2, 2, 3],
+        &[1, 2, 3],
+        Some(&[true, false, true]),
+    ),
+];
+
+#[test]
+fn rows_before_an_error_are_kept(rt: HostRuntime) -> Result<(), Fail> {
+    for (rows, offsets, values, flags) in KEPT {
+        let fails = offsets.len() < 4;
+        assert!(rt;
+            rows_before_are(rt.alloc(), rows, fails, offsets, values, flags)?
+                && array_of_items_is(rt.alloc(), rows, fails, false)
+                && array_of_items_is(rt.alloc(), rows, fails, true)
+                && builder_of_items_is(rt.alloc(), rows, fails, false)
+                && builder_of_items_is(rt.alloc(), rows, fails, true),
+            "{offsets:?}"
+        );
     }
     Ok(())
 }
 
 #[test]
-fn items_before_an_error_are_kept(rt: HostRuntime) -> Result<(), Fail> {
-    assert!(rt; third_error_keeps_two(rt.alloc())?);
-    assert!(rt; first_error_keeps_none(rt.alloc())?);
-    assert!(rt; no_error_keeps_all(rt.alloc())?);
-    for at in 0..4 {
-        assert!(rt; array_of_fallible_is(rt.alloc(), at, false), "{at}");
-        assert!(rt; array_of_fallible_is(rt.alloc(), at, true), "{at}");
+fn values_before_an_error_are_kept(rt: HostRuntime) -> Result<(), Fail> {
+    let table: [(&[Value<'_>], &[i64], &[u8]); 4] = [
+        (&[Err(9), Ok(&[]), Ok(&[3])], &[0], b""),
+        (&[Ok(&[1, 2]), Err(9), Err(8)], &[0, 2], &[1, 2]),
+        (&[Ok(&[1, 2]), Ok(&[]), Err(9)], &[0, 2, 2], &[1, 2]),
+        (&[Ok(&[1, 2]), Ok(&[]), Ok(&[3])], &[0, 2, 2, 3], &[1, 2, 3]),
+    ];
+    for (values, offsets, bytes) in table {
+        let fails = offsets.len() < 4;
+        assert!(rt;
+            values_before_are(rt.alloc(), values, fails, offsets, bytes)?
+                && value_builder_of_items_is(rt.alloc(), values, fails, false)
+                && value_builder_of_items_is(rt.alloc(), values, fails, true),
+            "{offsets:?}"
+        );
     }
     Ok(())
 }
 
 #[test]
 fn owned_items_are_taken(rt: HostRuntime) -> Result<(), Fail> {
-    assert!(rt; builder_of_slice_is(rt.alloc())?);
-    assert!(rt; builder_of_owned_rows_is(rt.alloc())?);
-    assert!(rt; value_builder_of_slice_is(rt.alloc())?);
-    assert!(rt; array_of_slice_is(rt.alloc())?);
-    assert!(rt; array_of_owned_rows_is(rt.alloc())?);
+    assert!(rt; owned_values_are(rt.alloc())?);
+    assert!(rt; owned_rows_are(rt.alloc())?);
+    assert!(rt; operations_are_replayed(rt.alloc())?);
     Ok(())
 }
 
 #[test]
 fn builders_are_read(rt: HostRuntime) -> Result<(), Fail> {
-    assert!(rt; rows_are_read(rt.alloc())?);
-    assert!(rt; values_are_read(rt.alloc())?);
-    assert!(rt; builders_are_asked(rt.alloc())?);
-    assert!(rt; value_builders_are_asked(rt.alloc())?);
-    assert!(rt; room_is_made(rt.alloc())?);
+    assert!(rt; builder_checks::builders_are_read(rt.alloc())?);
+    assert!(rt; value_checks::builders_are_read(rt.alloc())?);
     Ok(())
 }
 
 #[test]
 fn flags_are_changed(rt: HostRuntime) -> Result<(), Fail> {
     let some: Flags<'_> = Some(&[false, true]);
-    assert!(rt; flags_are_turned(rt.alloc(), some, Some(&[true, false]))?);
-    assert!(rt; flags_are_turned(rt.alloc(), None, None)?);
-    assert!(rt; flags_are_other(rt.alloc(), some, None)?);
-    assert!(rt; flags_are_other(rt.alloc(), None, some)?);
+    let turned: Flags<'_> = Some(&[true, false]);
+    for (flags, turned, others) in [(some, turned, None), (None, None, some)] {
+        assert!(rt;
+            flags_are_turned(rt.alloc(), flags, turned)?
+                && flags_are_other(rt.alloc(), flags, others)?
+                && flags_are_set(rt.alloc(), flags, others)?,
+            "{flags:?}"
+        );
+    }
     Ok(())
 }
 

@@ -48,13 +48,36 @@ pub fn four_large(alloc: Global) -> Result<BinaryArray<i64>, PolarsError> {
     )
 }
 
-/// The first slot alone.
-pub fn first(alloc: Global) -> Result<BinaryArray<i32>, PolarsError> {
-    array(alloc, &[1, 3], BYTES, Some(&[true]), ArrowDataType::Binary)
-}
-
 /// Three rows, the second of them null.
 pub const ROWS: [Option<&[u8]>; 3] = [Some(&[1, 2]), None, Some(&[3])];
 
 /// Their values, an empty one for the null.
 pub const VALUES: [&[u8]; 3] = [&[1, 2], &[], &[3]];
+
+/// The items of a slice, one by one, whose least number is told as any: less than there are, or more.
+#[derive(Drop)]
+pub struct Hinted<'a, T: Copy> {
+    pub items: &'a [T],
+    pub least: usize,
+}
+
+impl<'a, T: Copy> Iterator for Hinted<'a, T> {
+    ghost use Rattle.std.specs.Prelude.{◌+◌, length};
+    ghost use Rattle.std.specs.Iterator.{YieldsFirst, at_most};
+
+    type Item = T;
+
+    ghost next_gives = { YieldsFirst (λ s. s.items.now) };
+
+    ghost remaining = { λ s. at_most (length s.items.now + s.least) };
+
+    fn next(&mut self) -> Option<T> {
+        let (first, rest) = self.items.split_first()?;
+        self.items = rest;
+        Some(*first)
+    }
+
+    fn size_hint(&self) -> (usize, Option<usize>) {
+        (self.least, None)
+    }
+}

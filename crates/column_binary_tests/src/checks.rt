@@ -7,12 +7,12 @@ use crate::cases::{BYTES, array, buffer, four, four_large};
 use column_base::{ArrowDataType, Cause, Offset, PolarsError, Splitable};
 use column_binary::{BinaryArray, no_fault_is_sound};
 use column_checks::{Flags, Half, bitmap, ends_are, flags_are, gives, half_of};
-use column_storage::{ArrayAccessor, ArrayValuesIter, Bitmap, Buffer, check_validity};
+use column_storage::{ArrayAccessor, ArrayValuesIter, Bitmap, Listed, check_validity};
 use std::alloc::Global;
 
 // ---- lists
 
-fn lists_are<O: Offset>(
+pub fn lists_are<O: Offset>(
     array: &BinaryArray<O>,
     offsets: &[O],
     values: &[u8],
@@ -41,16 +41,15 @@ pub fn is_told<O: Offset>(
     }
 }
 
-fn raw_is<O: Offset>(
-    (offsets, values, bits): (Buffer<O>, Buffer<u8>, Option<Bitmap>),
-    numbers: &[O],
+// over three bytes
+fn raw_array<O: Offset>(
+    alloc: Global,
+    offsets: &[O],
     flags: Flags<'_>,
-    cause: Option<Cause>,
-) -> bool {
-    match BinaryArray::try_from_parts(offsets, values, bits) {
-        Ok(array) => cause.is_none() && lists_are(&array, numbers, b"abc", flags),
-        Err(fault) => cause == Some(fault),
-    }
+) -> Result<Result<BinaryArray<O>, Cause>, PolarsError> {
+    let offsets = buffer(alloc, offsets)?;
+    let validity = bitmap(alloc, flags)?;
+    Ok(BinaryArray::try_from_parts(offsets, buffer(alloc, b"abc")?, validity))
 }
 
 pub fn raw_is_told<O: Offset>(
@@ -59,12 +58,10 @@ pub fn raw_is_told<O: Offset>(
     flags: Flags<'_>,
     cause: Option<Cause>,
 ) -> Result<bool, PolarsError> {
-    let parts = (
-        buffer(alloc, offsets)?,
-        buffer(alloc, b"abc")?,
-        bitmap(alloc, flags)?,
-    );
-    Ok(raw_is(parts, offsets, flags, cause))
+    Ok(match raw_array(alloc, offsets, flags)? {
+        Ok(array) => cause.is_none() && lists_are(&array, offsets, b"abc", flags),
+        Err(fault) => cause == Some(fault),
+    })
 }
 
 fn dtype_is<O: Offset>(array: &BinaryArray<O>, dtype: ArrowDataType) -> bool {
@@ -135,11 +132,21 @@ pub fn rows_are(array: &BinaryArray<i32>) -> bool {
 }
 
 pub fn values_are(array: &BinaryArray<i32>) -> bool {
-    gives(array.values_iter(), &VALUES) && gives(array.non_null_values_iter(), &[b"ab", b"", b"de"])
+    ends_are(array.values_iter(), VALUES)
+        && gives(array.non_null_values_iter(), &[b"ab", b"", b"de"])
+        && ends_after(array.non_null_values_iter(), b"de")
+}
+
+// past all but the last item, which is given once, and None from then on
+fn ends_after<'a, I: Listed<Item = &'a [u8]>>(iter: I, last: &[u8]) -> bool
+    requires { (s : I) → I.can_next s }
+{
+    let mut iter = iter;
+    iter.nth(2) == Some(last) && iter.next().is_none() && iter.next().is_none()
 }
 
 pub fn large_rows_are(array: &BinaryArray<i64>) -> bool {
-    ends_are(array.into_iter(), LARGE_ROWS)
+    gives(array.into_iter(), &LARGE_ROWS)
 }
 
 pub fn large_values_are(array: &BinaryArray<i64>) -> bool {
@@ -147,30 +154,6 @@ pub fn large_values_are(array: &BinaryArray<i64>) -> bool {
     valid.size_hint() == (4, Some(4))
         && gives(valid, &VALUES)
         && ends_are(array.values_iter(), VALUES)
-}
-
-// of one slot, which each iterator gives, and None from then on
-pub fn one_row_is(array: &BinaryArray<i32>) -> bool {
-    let mut rows = array.iter();
-    rows.next() == Some(Some(b"ab".as_slice()))
-        && rows.next_back().is_none()
-        && rows.next().is_none()
-        && rows.next().is_none()
-        && rows.next_back().is_none()
-}
-
-pub fn one_value_is(array: &BinaryArray<i32>) -> bool {
-    let mut values = array.values_iter();
-    values.next_back() == Some(b"ab".as_slice())
-        && values.next().is_none()
-        && values.next_back().is_none()
-        && values.next_back().is_none()
-        && values.next().is_none()
-}
-
-pub fn one_valid_is(array: &BinaryArray<i32>) -> bool {
-    let mut values = array.non_null_values_iter();
-    values.next() == Some(b"ab".as_slice()) && values.next().is_none() && values.next().is_none()
 }
 
 // ---- parts
@@ -355,14 +338,14 @@ fn set_is(array: BinaryArray<i32>, bits: Option<Bitmap>, flags: Flags<'_>) -> bo
     lists_are(&array, &[1, 3, 4, 4, 6], BYTES, flags)
 }
 
-pub fn four_take(alloc: Global, flags: Flags<'_>, set: bool) -> Result<bool, PolarsError> {
+pub fn four_with(alloc: Global, flags: Flags<'_>) -> Result<bool, PolarsError> {
     let bits = bitmap(alloc, flags)?;
-    let array = four(alloc)?;
-    Ok(if set {
-        set_is(array, bits, flags)
-    } else {
-        with_is(array, bits, flags)
-    })
+    Ok(with_is(four(alloc)?, bits, flags))
+}
+
+pub fn four_set(alloc: Global, flags: Flags<'_>) -> Result<bool, PolarsError> {
+    let bits = bitmap(alloc, flags)?;
+    Ok(set_is(four(alloc)?, bits, flags))
 }
 
 pub fn taken_is(array: BinaryArray<i32>, flags: Flags<'_>) -> bool {

@@ -10,4 +10,8 @@ mod cases;
 #[cfg(test)]
 mod checks;
 #[cfg(test)]
+mod item_checks;
+#[cfg(test)]
 mod tests;
+#[cfg(test)]
+mod value_checks;

@@ -1,11 +1,11 @@
 //! The tests: each asserts what a check of `checks` says.
 
-use crate::cases::{first, four, four_large};
+use crate::cases::{four, four_large};
 use crate::checks::{
     Call, bounds_are, empty_is, four_are_read, four_are_shared, four_cut, four_give,
-    four_large_are_read, four_large_are_shared, four_large_cut, four_take, is_told, large_rows_are,
-    large_values_are, no_nulls_are, none_of_none_is, nulls_are, one_row_is, one_valid_is,
-    one_value_is, raw_is_told, rows_are, slices_follow, taken_is, values_are,
+    four_large_are_read, four_large_are_shared, four_large_cut, four_set, four_with, is_told,
+    large_rows_are, large_values_are, no_nulls_are, none_of_none_is, nulls_are, raw_is_told,
+    rows_are, slices_follow, taken_is, values_are,
 };
 use column_base::{ArrowDataType, Cause};
 use column_binary::{
@@ -147,13 +147,6 @@ fn four_large_slots_are_read(rt: HostRuntime) -> Result<(), Fail> {
     Ok(())
 }
 
-#[test]
-fn one_slot_is_given_once(rt: HostRuntime) -> Result<(), Fail> {
-    let array = first(rt.alloc())?;
-    assert!(rt; one_row_is(&array) && one_value_is(&array) && one_valid_is(&array));
-    Ok(())
-}
-
 // ---- parts
 
 #[test]
@@ -242,8 +235,7 @@ fn lists_are_shared_and_handed_back(rt: HostRuntime) -> Result<(), Fail> {
 fn other_flags_stand_beside_the_same_bytes(rt: HostRuntime) -> Result<(), Fail> {
     let table: [Flags<'_>; 3] = [Some(&[false; 4]), Some(&[true; 4]), None];
     for flags in table {
-        assert!(rt; four_take(rt.alloc(), flags, false)?);
-        assert!(rt; four_take(rt.alloc(), flags, true)?);
+        assert!(rt; four_with(rt.alloc(), flags)? && four_set(rt.alloc(), flags)?);
     }
     assert!(rt; taken_is(four(rt.alloc())?, ALL));
     Ok(())

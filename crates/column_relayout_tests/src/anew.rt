@@ -3,9 +3,10 @@
 use crate::cases::{Lists, kind_by, lists_of, parts, three};
 use crate::checks::column_is;
 use column_base::{Cause, PolarsError};
-use column_relayout::Step::{Append, Rebuild, Right};
+use column_relayout::Step::{Append, Left, Rebuild, Right, Slice};
 use column_relayout::{
-    AnyArray, Kind, RawColumn, Rows, assemble, relayout, step_append, step_rebuild, step_slice,
+    AnyArray, Kind, RawColumn, Rows, Step, assemble, relayout, step_append, step_rebuild,
+    step_slice,
 };
 use std::alloc::Global;
 
@@ -31,21 +32,36 @@ pub fn rows_are(alloc: Global) -> Result<bool, PolarsError> {
 
 // ---- append
 
-fn is_appended(alloc: Global, column: AnyArray, kind: Kind) -> Result<bool, PolarsError> {
+// the column with these rows after its slots
+fn is_appended(
+    alloc: Global,
+    column: AnyArray,
+    rows: &Rows,
+    kind: Kind,
+    wanted: &Lists<'_>,
+) -> bool {
+    match step_append(alloc, column, rows) {
+        Ok(column) => column_is(&column, kind, wanted),
+        Err(_) => false,
+    }
+}
+
+/// Three slots of the kind, and after them two rows.
+pub fn rows_follow(alloc: Global, large: bool, text: bool) -> Result<bool, PolarsError> {
     let rows = two_rows(alloc, b"de")?;
     let wanted = lists_of(
         &[0, 2, 2, 3, 5, 5],
         b"abcde",
         Some(&[true, false, true, true, false]),
     );
-    Ok(column_is(&step_append(alloc, column, &rows)?, kind, &wanted))
+    let parts = parts(alloc, large, text, three())?;
+    Ok(follow(alloc, parts, &rows, kind_by(large, text), &wanted))
 }
 
-/// Three slots of the kind, and after them two rows.
-pub fn rows_follow(alloc: Global, large: bool, text: bool) -> Result<bool, PolarsError> {
-    match assemble(parts(alloc, large, text, three())?) {
-        Ok(column) => is_appended(alloc, column, kind_by(large, text)),
-        Err(_) => Ok(false),
+fn follow(alloc: Global, parts: RawColumn, rows: &Rows, kind: Kind, wanted: &Lists<'_>) -> bool {
+    match assemble(parts) {
+        Ok(column) => is_appended(alloc, column, rows, kind, wanted),
+        Err(_) => false,
     }
 }
 
@@ -62,17 +78,6 @@ fn rows_of(alloc: Global, given: &[Option<&[u8]>]) -> Result<Rows, PolarsError> 
     Ok(rows)
 }
 
-fn follows(
-    alloc: Global,
-    column: AnyArray,
-    kind: Kind,
-    given: &[Option<&[u8]>],
-    wanted: &Lists<'_>,
-) -> Result<bool, PolarsError> {
-    let rows = rows_of(alloc, given)?;
-    Ok(column_is(&step_append(alloc, column, &rows)?, kind, wanted))
-}
-
 /// Two slots that were cut out of three, and after them these rows. The first offset is 1, and a byte lies before it.
 pub fn cut_slots_are_followed(
     alloc: Global,
@@ -82,9 +87,21 @@ pub fn cut_slots_are_followed(
 ) -> Result<bool, PolarsError> {
     let flags: Option<&[bool]> = Some(&[true, false, true]);
     let own = lists_of(&[0, 1, 2, 4], b"\xaa\xbb\xcc\xdd", flags);
-    match cut(parts(alloc, large, false, own)?) {
-        Ok(column) => follows(alloc, column, kind_by(large, false), given, &wanted),
-        Err(_) => Ok(false),
+    let rows = rows_of(alloc, given)?;
+    let parts = parts(alloc, large, false, own)?;
+    Ok(follow_the_cut(alloc, parts, &rows, kind_by(large, false), &wanted))
+}
+
+fn follow_the_cut(
+    alloc: Global,
+    parts: RawColumn,
+    rows: &Rows,
+    kind: Kind,
+    wanted: &Lists<'_>,
+) -> bool {
+    match cut(parts) {
+        Ok(column) => is_appended(alloc, column, rows, kind, wanted),
+        Err(_) => false,
     }
 }
 
@@ -99,10 +116,9 @@ pub fn texts_are_followed(
     given: &[Option<&[u8]>],
     wanted: Lists<'_>,
 ) -> Result<bool, PolarsError> {
-    match assemble(parts(alloc, false, true, own)?) {
-        Ok(column) => follows(alloc, column, Kind::Utf8_32, given, &wanted),
-        Err(_) => Ok(false),
-    }
+    let rows = rows_of(alloc, given)?;
+    let parts = parts(alloc, false, true, own)?;
+    Ok(follow(alloc, parts, &rows, Kind::Utf8_32, &wanted))
 }
 
 /// Texts take no row that is none.
@@ -146,18 +162,35 @@ pub fn no_texts_are_rebuilt(alloc: Global, large: bool, next: Kind) -> Result<bo
 
 // ---- in a plan
 
+fn leads_to(
+    alloc: Global,
+    parts: RawColumn,
+    plan: &[Step],
+    kind: Kind,
+    wanted: &Lists<'_>,
+) -> bool {
+    match relayout(alloc, parts, plan) {
+        Ok(column) => column_is(&column, kind, wanted),
+        Err(_) => false,
+    }
+}
+
 /// A light step cuts what was written.
 pub fn plan_writes(alloc: Global, large: bool) -> Result<bool, PolarsError> {
-    let plan = [
-        Append(two_rows(alloc, b"de")?),
-        Rebuild(Kind::Binary64),
-        Right(3),
-    ];
-    match relayout(alloc, parts(alloc, large, true, three())?, &plan) {
-        Ok(column) => {
-            let wanted = lists_of(&[3, 5, 5], b"abcde", Some(&[true, false]));
-            Ok(column_is(&column, Kind::Binary64, &wanted))
-        }
-        Err(_) => Ok(false),
-    }
+    let rows = two_rows(alloc, b"de")?;
+    let own = parts(alloc, large, true, three())?;
+    let wanted = lists_of(&[3, 5, 5], b"abcde", Some(&[true, false]));
+    let plan = [Append(rows), Rebuild(Kind::Binary64), Right(3)];
+    Ok(leads_to(alloc, own, &plan, Kind::Binary64, &wanted))
+}
+
+/// Rows that follow two slots which were cut out of three, and the first of these slots alone: it keeps all the bytes.
+pub fn plan_cuts_and_writes(alloc: Global, large: bool) -> Result<bool, PolarsError> {
+    let flags: Option<&[bool]> = Some(&[true, false, true]);
+    let own = lists_of(&[0, 1, 2, 4], b"\xaa\xbb\xcc\xdd", flags);
+    let rows = rows_of(alloc, &[Some(b"\xee"), Some(b""), None])?;
+    let own = parts(alloc, large, false, own)?;
+    let wanted = lists_of(&[0, 1], b"\xbb\xcc\xdd\xee", Some(&[false]));
+    let plan = [Slice(1, 2), Append(rows), Left(1)];
+    Ok(leads_to(alloc, own, &plan, kind_by(large, false), &wanted))
 }

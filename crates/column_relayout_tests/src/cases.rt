@@ -2,7 +2,7 @@
 
 use column_base::PolarsError;
 use column_checks::{Flags, bitmap};
-use column_relayout::{Kind, RawColumn};
+use column_relayout::{Kind, RawColumn, Step};
 use column_storage::Buffer;
 use std::alloc::Global;
 
@@ -147,4 +147,33 @@ pub fn parts(
     } else {
         narrow_parts(alloc, text, own)
     }
+}
+
+/// A light step as it is written down, which a table can hold and several plans can have.
+#[derive(Clone, Copy)]
+pub enum Light {
+    Slice(usize, usize),
+    Left(usize),
+    Right(usize),
+    ToUtf8,
+    ToBinary,
+}
+
+fn step_of(light: Light) -> Step {
+    match light {
+        Light::Slice(offset, length) => Step::Slice(offset, length),
+        Light::Left(count) => Step::Left(count),
+        Light::Right(count) => Step::Right(count),
+        Light::ToUtf8 => Step::ToUtf8,
+        Light::ToBinary => Step::ToBinary,
+    }
+}
+
+/// The plan of these steps.
+pub fn plan_of(alloc: Global, lights: &[Light]) -> Result<Vec<Step>, PolarsError> {
+    let mut plan = Vec::with_capacity(alloc, lights.len())?;
+    for light in lights {
+        plan.push(step_of(*light))?;
+    }
+    Ok(plan)
 }

@@ -1,11 +1,11 @@
 //! What columns, steps and plans are seen to give: one bool for each, and no assertion.
 
-use crate::cases::{Lists, Span, kind_by, part_of, parts, span_of, three, wide_parts};
+use crate::cases::Light::{self, Left, Right, Slice, ToBinary, ToUtf8};
+use crate::cases::{Lists, Span, kind_by, part_of, parts, plan_of, span_of, three, wide_parts};
 use column_base::{Cause, PolarsError};
 use column_checks::{Flags, flags_are};
-use column_relayout::Step::{Append, Left, Rebuild, Right, Slice, ToBinary, ToUtf8};
 use column_relayout::{
-    AnyArray, ColumnError, Kind, Step, assemble, relayout, step_left, step_right, step_slice,
+    AnyArray, ColumnError, Kind, assemble, relayout, step_left, step_right, step_slice,
     step_to_binary, step_to_utf8,
 };
 use column_storage::Bitmap;
@@ -104,16 +104,28 @@ fn assembled_is(
     }
 }
 
+// what the plan answers
+fn answer(
+    alloc: Global,
+    of: Shape,
+    own: Lists<'_>,
+    plan: &[Light],
+) -> Result<Result<AnyArray, ColumnError>, PolarsError> {
+    let plan = plan_of(alloc, plan)?;
+    let parts = parts(alloc, of.large, of.text, own)?;
+    Ok(relayout(alloc, parts, &plan))
+}
+
 /// Whether the plan leads to these texts, or byte strings.
 fn leads(
     alloc: Global,
     of: Shape,
     own: Lists<'_>,
-    plan: &[Step],
+    plan: &[Light],
     text: bool,
     wanted: Lists<'_>,
 ) -> Result<bool, PolarsError> {
-    match relayout(alloc, parts(alloc, of.large, of.text, own)?, plan) {
+    match answer(alloc, of, own, plan)? {
         Ok(column) => Ok(column_is(&column, kind_by(of.large, text), &wanted)),
         Err(_) => Ok(false),
     }
@@ -124,11 +136,10 @@ fn refuses(
     alloc: Global,
     of: Shape,
     own: Lists<'_>,
-    plan: &[Step],
+    plan: &[Light],
     refusal: ColumnError,
 ) -> Result<bool, PolarsError> {
-    let answer = relayout(alloc, parts(alloc, of.large, of.text, own)?, plan);
-    Ok(answer.err() == Some(refusal))
+    Ok(answer(alloc, of, own, plan)?.err() == Some(refusal))
 }
 
 // ---- parts, in each kind
@@ -239,7 +250,7 @@ pub fn wide_is_told(
 pub fn both_lead(
     alloc: Global,
     own: Lists<'_>,
-    plan: &[Step],
+    plan: &[Light],
     texts: (bool, bool),
     left: Span,
 ) -> Result<bool, PolarsError> {
@@ -255,7 +266,7 @@ pub fn both_refuse(
     alloc: Global,
     own: Lists<'_>,
     text: bool,
-    plan: &[Step],
+    plan: &[Light],
     refused: (usize, Cause),
 ) -> Result<bool, PolarsError> {
     let refusal = ColumnError::Step(refused.0, refused.1);
@@ -266,7 +277,12 @@ pub fn both_refuse(
 }
 
 /// Whether the cut leaves the span, in each kind.
-pub fn all_cut(alloc: Global, own: Lists<'_>, step: Step, left: Span) -> Result<bool, PolarsError> {
+pub fn all_cut(
+    alloc: Global,
+    own: Lists<'_>,
+    step: Light,
+    left: Span,
+) -> Result<bool, PolarsError> {
     let plan = [step];
     Ok(
         both_lead(alloc, own, &plan, (false, false), left)?
@@ -275,7 +291,7 @@ pub fn all_cut(alloc: Global, own: Lists<'_>, step: Step, left: Span) -> Result<
 }
 
 /// Whether the cut reaches past the end, in each kind.
-pub fn all_pass(alloc: Global, own: Lists<'_>, step: Step) -> Result<bool, PolarsError> {
+pub fn all_pass(alloc: Global, own: Lists<'_>, step: Light) -> Result<bool, PolarsError> {
     let plan = [step];
     let refused = (0, Cause::StepRange);
     Ok(
@@ -285,7 +301,7 @@ pub fn all_pass(alloc: Global, own: Lists<'_>, step: Step) -> Result<bool, Polar
 }
 
 /// The first steps, as many as these.
-pub fn first_steps(plan: &[Step], count: usize) -> &[Step] {
+pub fn first_steps(plan: &[Light], count: usize) -> &[Light] {
     if count <= plan.len() {
         &plan[..count]
     } else {
@@ -295,15 +311,13 @@ pub fn first_steps(plan: &[Step], count: usize) -> &[Step] {
 
 // ---- steps, by their calls
 
-// A light step; no heavy one is taken here.
-fn by_its_call(column: AnyArray, step: Step) -> Result<AnyArray, Cause> {
+fn by_its_call(column: AnyArray, step: Light) -> Result<AnyArray, Cause> {
     match step {
         Slice(offset, length) => step_slice(column, offset, length),
         Left(count) => step_left(column, count),
         Right(count) => step_right(column, count),
         ToUtf8 => step_to_utf8(column),
         ToBinary => step_to_binary(column),
-        Append(_) | Rebuild(_) => Err(Cause::StepRange),
     }
 }
 
@@ -317,7 +331,7 @@ fn gives(answer: Result<AnyArray, Cause>, kind: Kind, wanted: &Lists<'_>) -> boo
 fn called_is(
     alloc: Global,
     of: Shape,
-    step: Step,
+    step: Light,
     text: bool,
     left: Span,
 ) -> Result<bool, PolarsError> {
@@ -331,7 +345,7 @@ fn called_is(
     }
 }
 
-fn call_refuses(alloc: Global, of: Shape, step: Step, cause: Cause) -> Result<bool, PolarsError> {
+fn call_refuses(alloc: Global, of: Shape, step: Light, cause: Cause) -> Result<bool, PolarsError> {
     match assemble(parts(alloc, of.large, of.text, three())?) {
         Ok(column) => Ok(by_its_call(column, step).err() == Some(cause)),
         Err(_) => Ok(false),

@@ -1,9 +1,10 @@
 //! The tests: each asserts what a check of `checks` says.
 
 use crate::anew::{
-    cut_slots_are_followed, no_texts_are_rebuilt, only_texts_follow, plan_writes, rows_are,
-    rows_follow, slots_are_rebuilt, texts_are_followed,
+    cut_slots_are_followed, no_texts_are_rebuilt, only_texts_follow, plan_cuts_and_writes,
+    plan_writes, rows_are, rows_follow, slots_are_rebuilt, texts_are_followed,
 };
+use crate::cases::Light::{self, Left, Right, Slice, ToBinary, ToUtf8};
 use crate::cases::{Lists, Span, cut_character, eight, framed, lists_of, span_of, three, without};
 use crate::checks::{
     all_are_told, all_convert, all_cut, all_pass, both_lead, both_refuse, calls_are, first_steps,
@@ -12,9 +13,9 @@ use crate::checks::{
 use crate::views::{no_views_are_rebuilt, views_are_cut, views_lead, views_refuse};
 use column_base::Cause;
 use column_checks::Flags;
-use column_relayout::Step::{Append, Left, Rebuild, Right, Slice, ToBinary, ToUtf8};
+use column_relayout::Step::{self, Append, Rebuild};
 use column_relayout::{
-    Kind, Rows, Step, last_step_after_light_ones, last_step_is_taken, light_plans_cut,
+    Kind, Rows, last_step_after_light_ones, last_step_is_taken, light_plans_cut,
     light_plans_cut_once, light_plans_keep_bytes, light_steps_cut_what_a_step_left,
     light_steps_cut_what_was_written, no_fault_is_well_formed, relays_lead, written_slots_are_same,
 };
@@ -192,7 +193,7 @@ fn steps_are_called(rt: HostRuntime) -> Result<(), Fail> {
 
 #[test]
 fn cuts_are_the_slots_they_name(rt: HostRuntime) -> Result<(), Fail> {
-    let table: [(Step, Span); 17] = [
+    let table: [(Light, Span); 17] = [
         (Slice(0, 3), span_of(0, 3, true)),
         (Slice(0, 2), span_of(0, 2, true)),
         (Slice(1, 2), span_of(1, 2, true)),
@@ -222,7 +223,7 @@ fn flags_that_are_all_set_are_dropped(rt: HostRuntime) -> Result<(), Fail> {
     let valid = lists_of(&[0, 1, 2], b"ab", Some(&[true, true]));
     let bare = lists_of(&[0, 1, 2], b"ab", None);
     let without = without();
-    let table: [(Lists<'_>, Step, Span); 9] = [
+    let table: [(Lists<'_>, Light, Span); 9] = [
         (valid, Slice(0, 2), span_of(0, 2, false)),
         (valid, Left(2), span_of(0, 2, false)),
         (valid, Right(0), span_of(0, 2, false)),
@@ -278,7 +279,7 @@ fn plans_tell_the_first_refused_step(rt: HostRuntime) -> Result<(), Fail> {
     let far = usize::MAX;
     let framed = framed();
     let cut = cut_character();
-    let table: [(Lists<'_>, &[Step], usize, Cause); 17] = [
+    let table: [(Lists<'_>, &[Light], usize, Cause); 17] = [
         (framed, &[ToUtf8], 0, Cause::InvalidUtf8),
         (framed, &[Right(1), ToUtf8, Left(9)], 1, Cause::InvalidUtf8),
         (framed, &[Left(3), ToUtf8, ToUtf8], 1, Cause::InvalidUtf8),
@@ -336,7 +337,7 @@ fn plans_lead_to_columns(rt: HostRuntime) -> Result<(), Fail> {
     let framed = framed();
     let cut = cut_character();
     // Whether the slots are texts then, and which of them are left.
-    let table: [(Lists<'_>, &[Step], bool, Span); 8] = [
+    let table: [(Lists<'_>, &[Light], bool, Span); 8] = [
         (framed, &[Slice(1, 2), ToUtf8], true, span_of(1, 2, false)),
         (
             framed,
@@ -378,7 +379,7 @@ fn plans_lead_to_columns(rt: HostRuntime) -> Result<(), Fail> {
 
 #[test]
 fn ten_light_steps_move_no_byte(rt: HostRuntime) -> Result<(), Fail> {
-    let of_bytes: [Step; 10] = [
+    let of_bytes: [Light; 10] = [
         Slice(0, 8),
         ToUtf8,
         Right(1),
@@ -390,7 +391,7 @@ fn ten_light_steps_move_no_byte(rt: HostRuntime) -> Result<(), Fail> {
         Slice(1, 3),
         Right(1),
     ];
-    let of_texts: [Step; 10] = [
+    let of_texts: [Light; 10] = [
         Slice(0, 8),
         ToBinary,
         Right(1),
@@ -512,13 +513,16 @@ fn columns_are_rebuilt(rt: HostRuntime) -> Result<(), Fail> {
 
 #[test]
 fn plans_write_anew(rt: HostRuntime) -> Result<(), Fail> {
-    assert!(rt; plan_writes(rt.alloc(), false)? && plan_writes(rt.alloc(), true)?);
+    for large in [false, true] {
+        assert!(rt; plan_writes(rt.alloc(), large)?, "{large}");
+        assert!(rt; plan_cuts_and_writes(rt.alloc(), large)?, "{large}");
+    }
     Ok(())
 }
 
 #[test]
 fn plans_keep_the_buffers_of_views(rt: HostRuntime) -> Result<(), Fail> {
-    let plans: [(&[Step], bool, usize, usize); 7] = [
+    let plans: [(&[Light], bool, usize, usize); 7] = [
         (&[], false, 0, 3),
         (&[Slice(1, 2)], false, 1, 2),
         (&[Left(2)], false, 0, 2),
@@ -543,16 +547,14 @@ fn plans_keep_the_buffers_of_views(rt: HostRuntime) -> Result<(), Fail> {
 #[test]
 fn views_are_not_written_yet(rt: HostRuntime) -> Result<(), Fail> {
     for text in [false, true] {
-        assert!(rt; views_refuse(rt.alloc(), text, &[Append(Rows::new(rt.alloc()))])?);
-        assert!(rt; views_refuse(rt.alloc(), text, &[Rebuild(Kind::Binary32)])?);
-        assert!(rt; views_refuse(rt.alloc(), text, &[Rebuild(Kind::Utf8View)])?);
+        assert!(rt; views_refuse(rt.alloc(), text, Append(Rows::new(rt.alloc())))?);
+        assert!(rt; views_refuse(rt.alloc(), text, Rebuild(Kind::Binary32))?);
+        assert!(rt; views_refuse(rt.alloc(), text, Rebuild(Kind::Utf8View))?);
     }
-    assert!(rt; views_refuse(rt.alloc(), true, &[ToUtf8])?);
-    assert!(rt; views_refuse(rt.alloc(), false, &[ToBinary])?);
-    assert!(rt; no_views_are_rebuilt(rt.alloc(), false, true, three(), &[Rebuild(Kind::BinView)])?);
-    assert!(rt; no_views_are_rebuilt(rt.alloc(), true, true, three(), &[Rebuild(Kind::Utf8View)])?);
-    assert!(rt;
-        no_views_are_rebuilt(rt.alloc(), true, false, three(), &[Rebuild(Kind::Utf8View)])?
-    );
+    assert!(rt; views_refuse(rt.alloc(), true, Step::ToUtf8)?);
+    assert!(rt; views_refuse(rt.alloc(), false, Step::ToBinary)?);
+    assert!(rt; no_views_are_rebuilt(rt.alloc(), false, true, three(), Kind::BinView)?);
+    assert!(rt; no_views_are_rebuilt(rt.alloc(), true, true, three(), Kind::Utf8View)?);
+    assert!(rt; no_views_are_rebuilt(rt.alloc(), true, false, three(), Kind::Utf8View)?);
     Ok(())
 }

@@ -1,6 +1,6 @@
 //! What columns of views are seen to give: one bool for each, and no assertion.
 
-use crate::cases::{Lists, parts};
+use crate::cases::{Light, Lists, parts, plan_of};
 use crate::checks::kind_of;
 use column_base::{Cause, PolarsError};
 use column_relayout::{
@@ -46,29 +46,55 @@ fn views_are(column: &AnyArray, wanted: &[View]) -> bool {
     }
 }
 
+fn answer(
+    alloc: Global,
+    text: bool,
+    plan: &[Light],
+) -> Result<Result<AnyArray, ColumnError>, PolarsError> {
+    let plan = plan_of(alloc, plan)?;
+    let parts = view_parts(alloc, text)?;
+    Ok(relayout(alloc, parts, &plan))
+}
+
+// as many views as these, from a place on
+fn part(views: &[View], from: usize, count: usize) -> &[View] {
+    if count <= views.len() && from <= views.len() - count {
+        &views[from..from + count]
+    } else {
+        views
+    }
+}
+
+fn gives(answer: Result<AnyArray, ColumnError>, kind: Kind, wanted: &[View]) -> bool {
+    match answer {
+        Ok(column) => kind_of(&column) == kind && views_are(&column, wanted),
+        Err(_) => false,
+    }
+}
+
 /// Whether the plan leads to a column of this kind with these views and the one buffer.
 pub fn views_lead(
     alloc: Global,
     text: bool,
-    plan: &[Step],
+    plan: &[Light],
     kind: Kind,
     from: usize,
     count: usize,
 ) -> Result<bool, PolarsError> {
     let all = views();
-    if from > 3 || count > 3 - from {
-        return Ok(false);
-    }
-    match relayout(alloc, view_parts(alloc, text)?, plan) {
-        Ok(column) => Ok(kind_of(&column) == kind && views_are(&column, &all[from..from + count])),
-        Err(_) => Ok(false),
-    }
+    let wanted = part(&all, from, count);
+    Ok(gives(answer(alloc, text, plan)?, kind, wanted))
 }
 
-/// Whether the plan of one step is refused for its kind of column.
-pub fn views_refuse(alloc: Global, text: bool, plan: &[Step]) -> Result<bool, PolarsError> {
-    let answer = relayout(alloc, view_parts(alloc, text)?, plan);
-    Ok(answer.err() == Some(ColumnError::Step(0, Cause::WrongKind)))
+// a step that is refused, as the only one, for the kind of column
+fn is_refused(alloc: Global, parts: RawColumn, step: Step) -> bool {
+    let answer = relayout(alloc, parts, &[step]);
+    answer.err() == Some(ColumnError::Step(0, Cause::WrongKind))
+}
+
+/// Whether the step is refused for its kind of column.
+pub fn views_refuse(alloc: Global, text: bool, step: Step) -> Result<bool, PolarsError> {
+    Ok(is_refused(alloc, view_parts(alloc, text)?, step))
 }
 
 /// Whether no column with offsets is rebuilt with views.
@@ -77,10 +103,10 @@ pub fn no_views_are_rebuilt(
     large: bool,
     text: bool,
     own: Lists<'_>,
-    plan: &[Step],
+    kind: Kind,
 ) -> Result<bool, PolarsError> {
-    let answer = relayout(alloc, parts(alloc, large, text, own)?, plan);
-    Ok(answer.err() == Some(ColumnError::Step(0, Cause::WrongKind)))
+    let parts = parts(alloc, large, text, own)?;
+    Ok(is_refused(alloc, parts, Step::Rebuild(kind)))
 }
 
 /// Whether a column of views is assembled and cut by the calls themselves.
@@ -88,7 +114,7 @@ pub fn views_are_cut(alloc: Global, text: bool, kind: Kind) -> Result<bool, Pola
     let [first, _, _] = views();
     match assemble(view_parts(alloc, text)?) {
         Ok(column) => match step_left(column, 1) {
-            Ok(part) => Ok(kind_of(&part) == kind && views_are(&part, &[first])),
+            Ok(column) => Ok(kind_of(&column) == kind && views_are(&column, &[first])),
             Err(_) => Ok(false),
         },
         Err(_) => Ok(false),

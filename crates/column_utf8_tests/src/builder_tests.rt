@@ -1,15 +1,17 @@
-//! The tests of the builders: each asserts what a check of `builder_checks` says.
+//! The tests of the builders: each asserts what a check of `builder_checks`, `value_checks` or `item_checks` says.
 
 use crate::builder_checks::{
-    OfRows, OfValues, ValueCall, array_of_fallible_is, array_of_rows_is, array_of_values_is,
-    both_are, both_values_are, builder_of_fallible_is, builder_of_rows_is, builder_of_values_is,
-    builders_are_asked, error_keeps, flags_are_other, flags_are_turned, frozen_is,
-    frozen_values_are, frozen_without_nulls_is, lists_are_taken_again, lists_are_told, mutable_is,
-    nullable_is, nulls_leave, owned_rows_are, owned_values_are, pops_give, pushes_leave,
-    room_is_made, rows_are_added, rows_are_read, tries_leave, value_builder_is,
-    value_builder_takes, value_builders_are_asked, value_lists_are_told, value_pops_give,
-    value_pushes_leave, values_are_added, values_are_read,
+    self, both_are, flags_are_other, flags_are_set, flags_are_turned, lists_are_told, nulls_leave,
+    pops_give, pushes_leave, tries_leave,
 };
+use crate::item_checks::{
+    OfRows, OfValues, Row, Value, ValueCall, array_of_items_is, array_of_rows_is,
+    array_of_values_is, builder_of_call_is, builder_of_items_is, builder_of_rows_is,
+    builder_of_values_is, operations_are_replayed, owned_rows_are, owned_values_are,
+    rows_are_added, rows_before_are, value_builder_of_items_is, values_are_added, values_are_taken,
+    values_before_are,
+};
+use crate::value_checks;
 use column_base::{ArrowDataType, Cause};
 use column_checks::Flags;
 use std::test::Fail;
@@ -59,7 +61,7 @@ fn the_first_refusal_of_values_is_told(rt: HostRuntime) -> Result<(), Fail> {
     ];
     for (values, dtype, cause) in table {
         assert!(rt;
-            value_lists_are_told(rt.alloc(), values, dtype, cause)?,
+            value_checks::lists_are_told(rt.alloc(), values, dtype, cause)?,
             "{values:?}"
         );
     }
@@ -69,10 +71,21 @@ fn the_first_refusal_of_values_is_told(rt: HostRuntime) -> Result<(), Fail> {
 #[test]
 fn pushes_leave_their_slots(rt: HostRuntime) -> Result<(), Fail> {
     assert!(rt; pushes_leave(rt.alloc())?);
-    assert!(rt; value_pushes_leave(rt.alloc())?);
+    assert!(rt; value_checks::pushes_leave(rt.alloc())?);
     assert!(rt; tries_leave(rt.alloc())?);
-    for (before, after) in [(false, false), (false, true), (true, false), (true, true)] {
-        assert!(rt; nulls_leave(rt.alloc(), before, after)?, "{before} {after}");
+    Ok(())
+}
+
+#[test]
+fn a_null_makes_the_validity(rt: HostRuntime) -> Result<(), Fail> {
+    let table: [([Option<&str>; 2], Flags<'_>); 4] = [
+        ([Some("é"), Some("€")], None),
+        ([Some("é"), None], Some(&[true, false])),
+        ([None, Some("€")], Some(&[false, true])),
+        ([None, None], Some(&[false, false])),
+    ];
+    for (rows, flags) in table {
+        assert!(rt; nulls_leave(rt.alloc(), rows, flags)?, "{flags:?}");
     }
     Ok(())
 }
@@ -80,7 +93,7 @@ fn pushes_leave_their_slots(rt: HostRuntime) -> Result<(), Fail> {
 #[test]
 fn pops_give_the_rows(rt: HostRuntime) -> Result<(), Fail> {
     assert!(rt; pops_give(rt.alloc())?);
-    assert!(rt; value_pops_give(rt.alloc())?);
+    assert!(rt; value_checks::pops_give(rt.alloc())?);
     Ok(())
 }
 
@@ -91,20 +104,19 @@ fn slots_of_two_are_in_order(rt: HostRuntime) -> Result<(), Fail> {
     assert!(rt; both_are(rt.alloc(), some, None, Some(&[true, false, true, true]))?);
     assert!(rt; both_are(rt.alloc(), None, some, Some(&[true, true, true, false]))?);
     assert!(rt; both_are(rt.alloc(), some, some, Some(&[true, false, true, false]))?);
-    assert!(rt; both_values_are(rt.alloc())?);
+    assert!(rt; value_checks::both_are(rt.alloc())?);
     Ok(())
 }
 
 #[test]
 fn arrays_have_the_slots(rt: HostRuntime) -> Result<(), Fail> {
-    assert!(rt; frozen_is(rt.alloc())?);
-    assert!(rt; frozen_without_nulls_is(rt.alloc())?);
-    assert!(rt; frozen_values_are(rt.alloc())?);
-    assert!(rt; nullable_is(rt.alloc())?);
-    assert!(rt; mutable_is(rt.alloc())?);
-    assert!(rt; lists_are_taken_again(rt.alloc())?);
+    assert!(rt; builder_checks::arrays_are(rt.alloc())?);
+    assert!(rt; value_checks::arrays_are(rt.alloc())?);
     Ok(())
 }
+
+// no number of items, one that is too small, the right one, and one that is too great
+const TOLD: [usize; 4] = [0, 1, 3, usize::MAX];
 
 #[test]
 fn rows_are_taken_from_iterators(rt: HostRuntime) -> Result<(), Fail> {
@@ -114,9 +126,14 @@ fn rows_are_taken_from_iterators(rt: HostRuntime) -> Result<(), Fail> {
         OfRows::Trusted,
         OfRows::TrustedUnchecked,
     ] {
-        assert!(rt; builder_of_rows_is(rt.alloc(), call)?, "{call:?}");
-        assert!(rt; array_of_rows_is(rt.alloc(), call)?, "{call:?}");
-        assert!(rt; rows_are_added(rt.alloc(), call)?, "{call:?}");
+        for least in TOLD {
+            assert!(rt;
+                builder_of_rows_is(rt.alloc(), call, least)?
+                    && array_of_rows_is(rt.alloc(), call, least)?
+                    && rows_are_added(rt.alloc(), call, least)?,
+                "{call:?} {least}"
+            );
+        }
     }
     Ok(())
 }
@@ -128,43 +145,90 @@ fn values_are_taken_from_iterators(rt: HostRuntime) -> Result<(), Fail> {
         OfValues::Trusted,
         OfValues::TrustedUnchecked,
     ] {
-        assert!(rt; builder_of_values_is(rt.alloc(), call)?, "{call:?}");
-        assert!(rt; values_are_added(rt.alloc(), call)?, "{call:?}");
+        for least in TOLD {
+            assert!(rt;
+                builder_of_values_is(rt.alloc(), call, least)?
+                    && array_of_values_is(rt.alloc(), call, least)?
+                    && values_are_added(rt.alloc(), call, least)?,
+                "{call:?} {least}"
+            );
+        }
     }
-    assert!(rt; array_of_values_is(rt.alloc(), false)?);
-    assert!(rt; array_of_values_is(rt.alloc(), true)?);
     Ok(())
 }
 
 #[test]
 fn value_builders_take_from_iterators(rt: HostRuntime) -> Result<(), Fail> {
     for call in [
-        ValueCall::Iter,
-        ValueCall::TryIter,
+        ValueCall::Plain,
+        ValueCall::Try,
         ValueCall::Values,
         ValueCall::TrustedValues,
         ValueCall::TrustedValuesUnchecked,
         ValueCall::Trusted,
         ValueCall::TrustedUnchecked,
     ] {
-        assert!(rt; value_builder_is(rt.alloc(), call)?, "{call:?}");
-        assert!(rt; value_builder_takes(rt.alloc(), call)?, "{call:?}");
+        for least in TOLD {
+            assert!(rt;
+                builder_of_call_is(rt.alloc(), call, least)?
+                    && values_are_taken(rt.alloc(), call, least)?,
+                "{call:?} {least}"
+            );
+        }
+    }
+    Ok(())
+}
+
+// rows, and what is kept of them
+const KEPT: [(&[Row<'_>], &[i32], &[u8], Flags<'_>); 4] = [
+    (&[Err(9), Ok(None), Ok(Some("there"))], &[0], b"", None),
+    (&[Ok(Some("hi")), Err(9), Err(8)], &[0, 2], b"hi", None),
+    (
+        &[Ok(Some("hi")), Ok(None), Err(9)],
+        &[0, 2, 2],
+        b"hi",
+        Some(&[true, false]),
+    ),
+    (
+        &[Ok(Some("hi")), Ok(None), Ok(Some("there"))],
+        &[0, 2, 2, 7],
+        b"hithere",
+        Some(&[true, false, true]),
+    ),
+];
+
+#[test]
+fn rows_before_an_error_are_kept(rt: HostRuntime) -> Result<(), Fail> {
+    for (rows, offsets, values, flags) in KEPT {
+        let fails = offsets.len() < 4;
+        assert!(rt;
+            rows_before_are(rt.alloc(), rows, fails, offsets, values, flags)?
+                && array_of_items_is(rt.alloc(), rows, fails, false)
+                && array_of_items_is(rt.alloc(), rows, fails, true)
+                && builder_of_items_is(rt.alloc(), rows, fails, false)
+                && builder_of_items_is(rt.alloc(), rows, fails, true),
+            "{offsets:?}"
+        );
     }
     Ok(())
 }
 
 #[test]
-fn items_before_an_error_are_kept(rt: HostRuntime) -> Result<(), Fail> {
-    assert!(rt; error_keeps(rt.alloc(), 0, &[0], b"", None)?);
-    assert!(rt; error_keeps(rt.alloc(), 1, &[0, 2], b"hi", None)?);
-    assert!(rt; error_keeps(rt.alloc(), 2, &[0, 2, 2], b"hi", Some(&[true, false]))?);
-    let all: Flags<'_> = Some(&[true, false, true]);
-    assert!(rt; error_keeps(rt.alloc(), 3, &[0, 2, 2, 7], b"hithere", all)?);
-    for at in 0..4 {
-        for unchecked in [false, true] {
-            assert!(rt; array_of_fallible_is(rt.alloc(), at, unchecked), "{at}");
-            assert!(rt; builder_of_fallible_is(rt.alloc(), at, unchecked), "{at}");
-        }
+fn values_before_an_error_are_kept(rt: HostRuntime) -> Result<(), Fail> {
+    let table: [(&[Value<'_>], &[i64], &[u8]); 4] = [
+        (&[Err(9), Ok(""), Ok("there")], &[0], b""),
+        (&[Ok("hi"), Err(9), Err(8)], &[0, 2], b"hi"),
+        (&[Ok("hi"), Ok(""), Err(9)], &[0, 2, 2], b"hi"),
+        (&[Ok("hi"), Ok(""), Ok("there")], &[0, 2, 2, 7], b"hithere"),
+    ];
+    for (values, offsets, bytes) in table {
+        let fails = offsets.len() < 4;
+        assert!(rt;
+            values_before_are(rt.alloc(), values, fails, offsets, bytes)?
+                && value_builder_of_items_is(rt.alloc(), values, fails, false)
+                && value_builder_of_items_is(rt.alloc(), values, fails, true),
+            "{offsets:?}"
+        );
     }
     Ok(())
 }
@@ -173,25 +237,28 @@ fn items_before_an_error_are_kept(rt: HostRuntime) -> Result<(), Fail> {
 fn owned_items_are_taken(rt: HostRuntime) -> Result<(), Fail> {
     assert!(rt; owned_values_are(rt.alloc())?);
     assert!(rt; owned_rows_are(rt.alloc())?);
+    assert!(rt; operations_are_replayed(rt.alloc())?);
     Ok(())
 }
 
 #[test]
 fn builders_are_read(rt: HostRuntime) -> Result<(), Fail> {
-    assert!(rt; rows_are_read(rt.alloc())?);
-    assert!(rt; values_are_read(rt.alloc())?);
-    assert!(rt; builders_are_asked(rt.alloc())?);
-    assert!(rt; value_builders_are_asked(rt.alloc())?);
-    assert!(rt; room_is_made(rt.alloc())?);
+    assert!(rt; builder_checks::builders_are_read(rt.alloc())?);
+    assert!(rt; value_checks::builders_are_read(rt.alloc())?);
     Ok(())
 }
 
 #[test]
 fn flags_are_changed(rt: HostRuntime) -> Result<(), Fail> {
     let some: Flags<'_> = Some(&[false, true]);
-    assert!(rt; flags_are_turned(rt.alloc(), some, Some(&[true, false]))?);
-    assert!(rt; flags_are_turned(rt.alloc(), None, None)?);
-    assert!(rt; flags_are_other(rt.alloc(), some, None)?);
-    assert!(rt; flags_are_other(rt.alloc(), None, some)?);
+    let turned: Flags<'_> = Some(&[true, false]);
+    for (flags, turned, others) in [(some, turned, None), (None, None, some)] {
+        assert!(rt;
+            flags_are_turned(rt.alloc(), flags, turned)?
+                && flags_are_other(rt.alloc(), flags, others)?
+                && flags_are_set(rt.alloc(), flags, others)?,
+            "{flags:?}"
+        );
+    }
     Ok(())
 }

@@ -178,7 +178,7 @@ fn values_are(array: &Utf8Array<i32>) -> bool {
 }
 
 fn large_rows_are(array: &Utf8Array<i64>) -> bool {
-    gives(array.iter(), &ROWS) && ends_are(array.into_iter(), ROWS)
+    gives(array.iter(), &ROWS) && gives(array.into_iter(), &ROWS)
 }
 
 fn large_values_are(array: &Utf8Array<i64>) -> bool {

@@ -10,6 +10,10 @@ mod cases;
 #[cfg(test)]
 mod checks;
 #[cfg(test)]
+mod item_checks;
+#[cfg(test)]
 mod readme;
 #[cfg(test)]
 mod tests;
+#[cfg(test)]
+mod value_checks;
