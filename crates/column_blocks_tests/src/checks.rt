@@ -40,35 +40,6 @@ pub fn rule_gives(alloc: Global, lengths: &[usize], wanted: &[usize]) -> Result<
     )
 }
 
-/// Whether a block with the greatest room is filled exactly, the next one has no more, and a value that is longer has a
-/// block of its own.
-pub fn greatest_room_is_kept(alloc: Global) -> Result<bool, PolarsError> {
-    let value = vec![in alloc; 0x78u8; 16_777_217]?;
-    if value.len() != 16_777_217 {
-        return Ok(false);
-    }
-    let mut blocks = Blocks::new(alloc);
-    let _half = blocks.store(&value[..8_388_608])?;
-    let first = blocks.store(LONG)?;
-    let filled = blocks.store(&value[..16_777_203])?;
-    let next = blocks.store(LONG)?;
-    let longer = blocks.store(&value[..16_777_204])?;
-    let whole = blocks.store(&value)?;
-    let last = blocks.store(LONG)?;
-    Ok(
-        first.to_le() == long(1, 0)
-            && filled.offset() == 13
-            && next.to_le() == long(2, 0)
-            && longer.buffer_idx() == 3
-            && whole.buffer_idx() == 4
-            && last.to_le() == long(5, 0)
-            && lengths_are(
-                &blocks,
-                &[8_388_608, 16_777_216, 13, 16_777_204, 16_777_217, 13],
-            ),
-    )
-}
-
 /// Whether a value of 12 bytes stands in its view, and one of 13 in a block.
 pub fn views_are_given(alloc: Global) -> Result<bool, PolarsError> {
     let mut blocks = Blocks::from_buffers(vec![in alloc; buffer(alloc, b"x")?]?);

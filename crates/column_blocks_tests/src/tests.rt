@@ -2,8 +2,8 @@
 
 use crate::checks::{
     blocks_are_finished, buffers_are_pushed, buffers_are_taken_once, copy_goes_on,
-    flags_are_changed, greatest_room_is_kept, rows_are_extended, rows_are_pushed, rule_gives,
-    slots_are_changed, views_are_given,
+    flags_are_changed, rows_are_extended, rows_are_pushed, rule_gives, slots_are_changed,
+    views_are_given,
 };
 use column_blocks::{
     DEFAULT_BLOCK_SIZE, MAX_EXP_BLOCK_SIZE, blocks_stay_sound, calls_append,
@@ -48,7 +48,12 @@ fn rooms_double_up_to_the_greatest(rt: HostRuntime) -> Result<(), Fail> {
         ],
         &[8_192, 16_384, 32_768, 65_536, 131_072, 13],
     )?;
-    let greatest = greatest_room_is_kept(rt.alloc())?;
+    // the greatest room is filled exactly and passed by one byte, and a value of more has a block of its own
+    let greatest = rule_gives(
+        rt.alloc(),
+        &[8_388_608, 13, 16_777_203, 13, 16_777_204, 16_777_217, 13],
+        &[8_388_608, 16_777_216, 13, 16_777_204, 16_777_217, 13],
+    )?;
     assert!(rt; doubled && greatest);
     assert!(rt; DEFAULT_BLOCK_SIZE == 8_192 && MAX_EXP_BLOCK_SIZE == 16_777_216);
     Ok(())
