@@ -5,11 +5,9 @@ use Rattle.std.proofs.lemmas.Bool.Decides.{nat_tests}
 use Rattle.std.proofs.lemmas.List.{length-replicate, replicate_more, append_assoc, append-nil}
 use Rattle.std.proofs.lemmas.List.Sums.{sum_by-le, sum_by-set, get_or-le-sum_by}
 use Rattle.std.proofs.lemmas.List.Elements.{All-push, All-set}
-use Rattle.column_storage.specs.Bits.{kept_flags, pushed_flag, joined_flags}
+use Rattle.column_storage.specs.Bits.{pushed_flag, joined_flags, constant_flags, changed_flag}
 use Rattle.column_storage.specs.Validity.{AreFlagsOf}
-use Rattle.column_storage.proofs.CountsLemmas.{unset-replicate}
-use Rattle.column_storage.proofs.FlagsLemmas.{flags_of-kept, length-kept_flags}
-use Rattle.column_storage.proofs.GrowingFlagsLemmas.{are_flags-pushed, are_flags-joined}
+use Rattle.column_storage.proofs.GrowingFlagsLemmas.{are_flags-pushed, are_flags-joined, are_flags-constant, are_flags-changed}
 use Rattle.column_view.specs.Views.{view_length}
 use Rattle.column_blocks.specs.Rows.{IsLengthCount}
 use Rattle.column_blocks.proofs.SumsLemmas.{sum_by-last}
@@ -24,31 +22,12 @@ pub ruleset pushes = (flagged-pushed)
 
 -- ---- slots that are alike
 
-kept-true : (n : ℕ) → kept_flags (replicate n true) ≡ None
-kept-true n = let none : count_by not (replicate n true) ≡ 0 = unset-replicate true n in rw none refl
-
-kept-false : (n : ℕ) → 0 < n → kept_flags (replicate n false) ≡ Some (replicate n false)
-kept-false n some = let all : count_by not (replicate n false) ≡ n = unset-replicate false n in rw all (grind (arith, nat_tests))
-
-pub joined-given : (n : ℕ) (bits : List Bool) (m : ℕ) (bit : Bool) → joined_flags n (Some bits) m (kept_flags (replicate m bit)) ≡ Some (bits ++ replicate m bit)
-joined-given n bits m bit = ap (λ (flags : List Bool). Some (bits ++ flags)) (flags_of-kept (replicate m bit) m (length-replicate m bit))
-
-pub joined-valid : (n m : ℕ) → joined_flags n None m (kept_flags (replicate m true)) ≡ None
-joined-valid n m = ap (joined_flags n None m) (kept-true m)
-
-pub joined-nothing : (n m : ℕ) (bit : Bool) → m ≡ 0 → joined_flags n None m (kept_flags (replicate m bit)) ≡ None
-joined-nothing n zero bit none = refl
-joined-nothing n (suc m) bit none = absurd (omega arith)
-
-pub joined-null : (n m : ℕ) → 0 < m → joined_flags n None m (kept_flags (replicate m false)) ≡ Some (replicate n true ++ replicate m false)
-joined-null n m some = ap (joined_flags n None m) (kept-false m some)
-
 pub flagged-extended : (views : List (List ℕ)) (view : List ℕ) (flags : Option (List Bool)) (n : ℕ) (valid : Bool) → AreFlagsOf (length views) flags
-    → AreFlagsOf (length (views ++ replicate n view)) (joined_flags (length views) flags n (kept_flags (replicate n valid)))
+    → AreFlagsOf (length (views ++ replicate n view)) (joined_flags (length views) flags n (constant_flags n valid))
 flagged-extended views view flags n valid all =
     let size : length (views ++ replicate n view) ≡ length views + n = length-append views (replicate n view) ∙ ap (λ (m : ℕ). length views + m) (length-replicate n view) in
-    subst (λ (m : ℕ). AreFlagsOf m (joined_flags (length views) flags n (kept_flags (replicate n valid)))) (sym size)
-    (are_flags-joined (length views) flags n (kept_flags (replicate n valid)) all (length-kept_flags (replicate n valid) n (length-replicate n valid)))
+    subst (λ (m : ℕ). AreFlagsOf m (joined_flags (length views) flags n (constant_flags n valid))) (sym size)
+    (are_flags-joined (length views) flags n (constant_flags n valid) all (are_flags-constant n valid))
 
 -- one more of those that are alike
 pub more_alike : (old : List (List ℕ)) (view : List ℕ) (n : ℕ) → (old ++ replicate n view) ++ view ∷ [] ≡ old ++ replicate (n + 1) view
@@ -59,14 +38,17 @@ none_alike old view = append-nil old
 
 pub ruleset alike = (more_alike, none_alike)
 
-pub ruleset constants = (joined-given, joined-valid, joined-nothing, joined-null, flagged-extended)
+pub ruleset constants = (flagged-extended)
 
 -- ---- another view, another flag
 
 pub length_set : {X : Type 0} (xs : List X) (i : ℕ) (x : X) → length (slice_set xs i x) ≡ length xs
 length_set xs i x = length-set xs i x
 
-pub ruleset changes = (length_set)
+pub flagged-changed : (views : List (List ℕ)) (flags : Option (List Bool)) (i : ℕ) (bit : Bool) → AreFlagsOf (length views) flags → AreFlagsOf (length views) (changed_flag (length views) flags i bit)
+flagged-changed views flags i bit all = are_flags-changed (length views) flags i bit all
+
+pub ruleset changes = (length_set, flagged-changed)
 
 -- ---- lengths that are counted
 

@@ -1,7 +1,7 @@
 -- Views that grow, and which of them are null: this library's own.
 use Rattle.std.specs.Prelude.{◌≡◌, ℕ, ◌^◌, ◌≤◌, Bool, true, false, List, [], ◌∷◌, ◌++◌, length, replicate, slice_set, sum_by, Option, Some, None, option_map}
 use Rattle.std.specs.List.{All}
-use Rattle.column_storage.specs.Bits.{flags_of, kept_flags, pushed_flag, joined_flags}
+use Rattle.column_storage.specs.Bits.{pushed_flag, joined_flags, constant_flags, changed_flag}
 use Rattle.column_view.specs.Views.{view_length}
 
 -- The views of a builder, and a flag for each where a validity is given.
@@ -37,16 +37,15 @@ pushed_view rows view valid = flagged_views (rows.views ++ view ∷ []) (pushed_
 abbrev pub extended_view : FlaggedViews → ℕ → List ℕ → Bool → FlaggedViews
 extended_view rows n view valid = flagged_views
     (rows.views ++ replicate n view)
-    (joined_flags (length rows.views) rows.flags n (kept_flags (replicate n valid)))
+    (joined_flags (length rows.views) rows.flags n (constant_flags n valid))
 
 -- another view in a slot, which is valid or null as before
 abbrev pub changed_view : FlaggedViews → ℕ → List ℕ → FlaggedViews
 changed_view rows i view = flagged_views (slice_set rows.views i view) rows.flags
 
--- A slot that is valid, or null. Flags are given from the first null on.
-abbrev pub changed_flag : FlaggedViews → ℕ → Bool → FlaggedViews
-changed_flag rows i true = flagged_views rows.views (option_map (λ flags. slice_set flags i true) rows.flags)
-changed_flag rows i false = flagged_views rows.views (Some (slice_set (flags_of (length rows.views) rows.flags) i false))
+-- a slot that is valid or null, with the same view
+abbrev pub with_flag : FlaggedViews → ℕ → Bool → FlaggedViews
+with_flag rows i valid = flagged_views rows.views (changed_flag (length rows.views) rows.flags i valid)
 
 -- other flags beside the same views
 abbrev pub with_flags : FlaggedViews → Option (List Bool) → FlaggedViews

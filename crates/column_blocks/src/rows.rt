@@ -3,15 +3,15 @@
 ghost use Rattle.std.specs.Prelude.{◌≡◌, ◌+◌, ◌<◌, ◌≤◌, ◌==◌, length, true, false, None, Some, OnErr, OnOk, IsOk, MatchOption, replicate};
 ghost use Rattle.std.specs.Option.{option_copied};
 ghost use Rattle.column_base.specs.Answers.{Answers};
-ghost use Rattle.column_storage.specs.Bits.{GrowingBits, bits_given, joined_flags, kept_flags, spare_beside};
+ghost use Rattle.column_storage.specs.Bits.{GrowingBits, bits_given, spare_beside};
 ghost use Rattle.column_storage.specs.Validity.{AreFlagsOf, is_valid_at};
-ghost use Rattle.column_blocks.specs.Rows.{flagged_views, no_views, view_bytes, null_view, pushed_view, extended_view, changed_view, changed_flag, with_flags};
+ghost use Rattle.column_blocks.specs.Rows.{flagged_views, no_views, view_bytes, null_view, pushed_view, extended_view, changed_view, with_flag, with_flags};
 
 use crate::views::CountedViews;
 use column_base::PolarsError;
 use column_storage::{
-    MutableBitmap, apply_flags, clone_flags, flag_at, push_null_flag, push_valid_flag,
-    reserve_flags, shrink_flags,
+    MutableBitmap, apply_flags, clone_flags, extend_constant_flags, flag_at, push_null_flag,
+    push_valid_flag, reserve_flags, set_flag, shrink_flags,
 };
 use column_view::View;
 use std::alloc::Global;
@@ -200,7 +200,7 @@ impl ViewRows {
 
     /// Adds `additional` slots with one view, valid or null, and makes a validity where there is none and some are null.
     ///
-    /// `NoMemory` where there is none for the slots or the validity.
+    /// `NoMemory` where there is none for the slots or the validity, and never for valid slots where there is room.
     #[tactic(auto, using(crate::proofs::RowsLemmas::constants))]
     pub fn extend_constant(
         &mut self,
@@ -209,10 +209,11 @@ impl ViewRows {
         is_valid: bool,
     ) -> Result<(), PolarsError>
         ensures answer { Answers result None (λ _. self.new.rows ≡ extended_view self.old.rows additional view is_valid) }
+        ensures spare_serves { is_valid ≡ true → additional ≤ self.old.spare → IsOk result }
         ensures unchanged { OnErr result (self.new.rows ≡ self.old.rows) }
     {
         self.views.reserve(additional)?;
-        extend_flags(
+        extend_constant_flags(
             self.views.allocator(),
             &mut self.validity,
             self.views.len(),
@@ -242,20 +243,16 @@ impl ViewRows {
     #[tactic(auto, using(crate::proofs::RowsLemmas::changes))]
     pub fn set_valid(&mut self, i: usize, is_valid: bool) -> Result<(), PolarsError>
         requires { i < length self.old.rows.views }
-        ensures answer { Answers result None (λ _. self.new.rows ≡ changed_flag self.old.rows i is_valid) }
+        ensures answer { Answers result None (λ _. self.new.rows ≡ with_flag self.old.rows i is_valid) }
         ensures unchanged { OnErr result (self.new.rows ≡ self.old.rows) }
     {
-        if let Some(bits) = &mut self.validity {
-            bits.set(i, is_valid);
-            return Ok(());
-        }
-        if is_valid {
-            return Ok(());
-        }
-        let mut bits = MutableBitmap::from_len_set(self.views.allocator(), self.views.len())?;
-        bits.set(i, false);
-        self.validity = Some(bits);
-        Ok(())
+        set_flag(
+            self.views.allocator(),
+            &mut self.validity,
+            self.views.len(),
+            i,
+            is_valid,
+        )
     }
 
     /// Puts other flags in place of those that there were, or none. Takes no memory.
@@ -282,29 +279,4 @@ impl ViewRows {
         self.views.shrink_to_fit();
         shrink_flags(&mut self.validity);
     }
-}
-
-// Adds the flags of `added` slots that are alike after those of `count` ones, and makes a validity where there is none
-// and they are null.
-#[tactic(auto, using(crate::proofs::RowsLemmas::constants))]
-fn extend_flags(
-    alloc: Global,
-    validity: &mut Option<MutableBitmap>,
-    count: usize,
-    added: usize,
-    is_valid: bool,
-) -> Result<(), PolarsError>
-    ensures answer { Answers result None (λ _. bits_given validity.new ≡ joined_flags count (bits_given validity.old) added (kept_flags (replicate added is_valid))) }
-    ensures unchanged { OnErr result (validity.new ≡ validity.old) }
-{
-    if let Some(bits) = validity {
-        return bits.extend_constant(added, is_valid);
-    }
-    if is_valid || added == 0 {
-        return Ok(());
-    }
-    let mut bits = MutableBitmap::from_len_set(alloc, count)?;
-    bits.extend_constant(added, false)?;
-    *validity = Some(bits);
-    Ok(())
 }

@@ -3,10 +3,9 @@
 ghost use Rattle.std.specs.Prelude.{◌≡◌, ◌+◌, ◌<◌, ◌≤◌, ◌++◌, ◌∷◌, [], length, replicate, slice_set, sum_by, None, OnErr, IsOk};
 ghost use Rattle.column_base.specs.Answers.{Answers};
 ghost use Rattle.column_view.specs.Views.{view_length};
-ghost use Rattle.column_blocks.specs.Rows.{AreBounded};
 
 use column_base::PolarsError;
-use column_view::View;
+use column_view::{View, sum_of_lengths};
 use std::alloc::Global;
 use std::marker::Model;
 
@@ -149,17 +148,4 @@ impl CountedViews {
         let CountedViews { views, bytes: _ } = self;
         views
     }
-}
-
-// The lengths of all views together.
-#[tactic(auto, using(crate::proofs::SumsLemmas::sums))]
-fn sum_of_lengths(views: &[View]) -> u128
-    ensures sum { result ≡ sum_by view_length views.now }
-    ensures bounded { AreBounded views.now }
-{
-    let mut total = 0u128;
-    for view in views {
-        total += view.length() as u128;
-    }
-    total
 }

@@ -4,10 +4,10 @@ use Rattle.std.specs.Prelude.{min, option_map}
 use Rattle.std.proofs.lemmas.List.{length-append, length-map, length-take-le, map-append, append-nil, append_assoc}
 use Rattle.column_base.specs.Kinds.{Slot}
 use Rattle.column_base.specs.Pushes.{grown, growth_fault}
-use Rattle.column_storage.specs.Bits.{flags_of, pushed_flag}
+use Rattle.column_storage.specs.Bits.{flags_of, pushed_flag, joined_flags, constant_flags}
 use Rattle.column_storage.specs.Slots.{flagged_slots}
 use Rattle.column_storage.specs.Validity.{AreFlagsOf}
-use Rattle.column_storage.proofs.GrowingFlagsLemmas.{are_flags-pushed, flagged_slots-pushed, are_flags-first, flagged_slots-first, are_flags-frozen, flagged_slots-frozen}
+use Rattle.column_storage.proofs.GrowingFlagsLemmas.{are_flags-pushed, joined-nulls, flagged_slots-pushed, are_flags-first, flagged_slots-first, are_flags-frozen, flagged_slots-frozen}
 use Rattle.column_boolean.specs.Slots.{BooleanLists, boolean_lists, boolean_count, boolean_slots, byte_of, AreSoundBooleans}
 use Rattle.column_boolean.specs.Rows.{pushed_row, row_growth, slot_of, first_booleans, frozen_lists}
 use Rattle.column_boolean.proofs.SlotsLemmas.{flagged}
@@ -118,14 +118,17 @@ grown_nulls (suc n) values bits =
     ∙ ap (λ (bs : List Bool). boolean_lists ((values ++ false ∷ []) ++ replicate n false) (Some bs)) (sym (one_more_of n bits false))
     ∙ grown_nulls n (values ++ false ∷ []) (bits ++ false ∷ [])
 
-pub grown_null : (n : ℕ) (lists : BooleanLists) → 0 < n → boolean_lists (lists.values ++ replicate n false) (Some (flags_of (boolean_count lists) lists.flags ++ replicate n false)) ≡ grown row_growth lists (replicate n None)
-grown_null zero lists some = absurd (omega arith)
-grown_null (suc n) lists some =
+grown_some : (n : ℕ) (lists : BooleanLists) → 0 < n → boolean_lists (lists.values ++ replicate n false) (Some (flags_of (boolean_count lists) lists.flags ++ replicate n false)) ≡ grown row_growth lists (replicate n None)
+grown_some zero lists some = absurd (omega arith)
+grown_some (suc n) lists some =
     let bits = flags_of (boolean_count lists) lists.flags in
     ap (λ (vs : List Bool). boolean_lists vs (Some (bits ++ replicate (suc n) false))) (sym (one_more_of n lists.values false))
     ∙ ap (λ (bs : List Bool). boolean_lists ((lists.values ++ false ∷ []) ++ replicate n false) (Some bs)) (sym (one_more_of n bits false))
     ∙ grown_nulls n (lists.values ++ false ∷ []) (bits ++ false ∷ [])
     ∙ ap (λ (flags : Option (List Bool)). grown row_growth (boolean_lists (lists.values ++ false ∷ []) flags) (replicate n None)) (sym (null_first n lists.flags (boolean_count lists)))
+
+pub grown_null : (n : ℕ) (lists : BooleanLists) → 0 < n → boolean_lists (lists.values ++ replicate n false) (joined_flags (boolean_count lists) lists.flags n (constant_flags n false)) ≡ grown row_growth lists (replicate n None)
+grown_null n lists some = ap (boolean_lists (lists.values ++ replicate n false)) (joined-nulls (boolean_count lists) lists.flags n some) ∙ grown_some n lists some
 
 -- ---- room
 

@@ -13,8 +13,9 @@ ghost use Rattle.column_boolean.specs.Rows.{no_slots, boolean_at, pushed_row, ro
 use crate::array::BooleanArray;
 use column_base::{ArrowDataType, Growing, PolarsError, TryPush};
 use column_storage::{
-    MutableArray, MutableBitmap, add_flags, apply_flags, clone_flags, flag_at, freeze_flags,
-    push_null_flag, push_valid_flag, reserve_flags, shrink_flags, truncate_flags,
+    MutableArray, MutableBitmap, add_flags, apply_flags, clone_flags, extend_constant_flags,
+    flag_at, freeze_flags, push_null_flag, push_valid_flag, reserve_flags, shrink_flags,
+    truncate_flags,
 };
 use std::alloc::Global;
 use std::marker::Model;
@@ -341,30 +342,10 @@ impl MutableBooleanArray {
         }
         let count = self.values.len();
         self.values.reserve(additional)?;
-        add_null_flags(self.alloc, &mut self.validity, count, additional)?;
+        extend_constant_flags(self.alloc, &mut self.validity, count, additional, false)?;
         self.values.extend_constant(additional, false)?;
         Ok(())
     }
-}
-
-// Adds the flags of null slots after those of `count` slots, which are all valid where no validity is given.
-fn add_null_flags(
-    alloc: Global,
-    validity: &mut Option<MutableBitmap>,
-    count: usize,
-    additional: usize,
-) -> Result<(), PolarsError>
-    ensures answer { Answers result None (λ _. bits_given validity.new ≡ Some (flags_of count (bits_given validity.old) ++ replicate additional false)) }
-    ensures unchanged { OnErr result (bits_given validity.new ≡ bits_given validity.old) }
-    ensures spare_kept { OnErr result (validity.new ≡ validity.old) }
-{
-    if let Some(bits) = validity {
-        return bits.extend_constant(additional, false);
-    }
-    let mut bits = MutableBitmap::from_len_set(alloc, count)?;
-    bits.extend_constant(additional, false)?;
-    *validity = Some(bits);
-    Ok(())
 }
 
 impl Growing for MutableBooleanArray {

@@ -8,14 +8,14 @@ use Rattle.std.proofs.lemmas.Bool.Decides.{nat_tests}
 use Rattle.column_base.specs.Kinds.{Slot}
 use Rattle.column_base.specs.Pushes.{grown, growth_fault}
 use Rattle.column_base.specs.Slots.{slots_by}
-use Rattle.column_storage.specs.Bits.{given_bits, optional_values, flags_of, frozen_flags, pushed_flag, joined_flags}
+use Rattle.column_storage.specs.Bits.{given_bits, optional_values, flags_of, frozen_flags, pushed_flag, joined_flags, constant_flags, changed_flag}
 use Rattle.column_storage.specs.Slots.{flagged_slots}
 use Rattle.column_storage.specs.Validity.{AreFlagsOf}
 use Rattle.std.proofs.Math.Seq.{take-length}
 use Rattle.column_storage.proofs.RangesLemmas.{range-first, range-last, range-length}
-use Rattle.column_storage.proofs.GrowingFlagsLemmas.{are_flags-pushed, are_flags-first, are_flags-frozen, are_flags-joined, flagged_slots-pushed, flagged_slots-first, flagged_slots-frozen, flagged_slots-joined, flags-joined}
+use Rattle.column_storage.proofs.GrowingFlagsLemmas.{are_flags-pushed, are_flags-first, are_flags-frozen, are_flags-joined, flags_of-constant, are_flags-constant, are_flags-changed, flags_of-changed, flagged_slots-pushed, flagged_slots-first, flagged_slots-frozen, flagged_slots-joined, flags-joined}
 use Rattle.column_primitive.specs.Numbers.{NumberLists, number_lists, number_count, number_slots, number_rows, number_at, AreSoundNumbers, NumberArray, number_array}
-use Rattle.column_primitive.specs.Rows.{no_numbers, stored, slot_of, pushed_row, row_growth, first_numbers, joined_array, constant_flags, extended_row, changed_flag, changed_row}
+use Rattle.column_primitive.specs.Rows.{no_numbers, stored, slot_of, pushed_row, row_growth, first_numbers, joined_array, extended_row, changed_row}
 use Rattle.column_primitive.proofs.NumbersLemmas.{flagged}
 
 -- ---- one slot more
@@ -86,32 +86,6 @@ slots-joined bytes array others sound =
 
 -- ---- slots of one row
 
-pub flags_of-constant : (n : ℕ) (bit : Bool) → flags_of n (constant_flags n bit) ≡ replicate n bit
-flags_of-constant zero true = refl
-flags_of-constant zero false = refl
-flags_of-constant (suc n) true = refl
-flags_of-constant (suc n) false = grind (arith, nat_tests)
-
-pub joined-given : (n : ℕ) (bits : List Bool) (m : ℕ) (bit : Bool) → joined_flags n (Some bits) m (constant_flags m bit) ≡ Some (bits ++ replicate m bit)
-joined-given n bits m bit = ap (λ (flags : List Bool). Some (bits ++ flags)) (flags_of-constant m bit)
-
-pub joined-nothing : (n m : ℕ) (bit : Bool) → m ≡ 0 → joined_flags n None m (constant_flags m bit) ≡ None
-joined-nothing n m true none = refl
-joined-nothing n m false none = rw none refl
-
-pub joined-null : (n m : ℕ) → 0 < m → joined_flags n None m (constant_flags m false) ≡ Some (replicate n true ++ replicate m false)
-joined-null n zero some = absurd (omega arith)
-joined-null n (suc m) some = grind (arith, nat_tests)
-
-constant-null : (n : ℕ) → 0 < n → constant_flags n false ≡ Some (replicate n false)
-constant-null n some = grind (arith, nat_tests)
-
-pub are_flags-constant : (n : ℕ) (bit : Bool) → AreFlagsOf n (constant_flags n bit)
-are_flags-constant zero true = tt
-are_flags-constant zero false = tt
-are_flags-constant (suc n) true = tt
-are_flags-constant (suc n) false = subst (λ (flags : Option (List Bool)). AreFlagsOf (suc n) flags) (sym (constant-null (suc n) (omega arith))) (length-replicate (suc n) false)
-
 pub sound_extended : {T : Type 0} (lists : NumberLists T) (n : ℕ) (x : T) (bit : Bool) → AreSoundNumbers lists → AreSoundNumbers (number_lists (lists.numbers ++ replicate n x) (joined_flags (number_count lists) lists.flags n (constant_flags n bit)))
 sound_extended lists n x bit sound =
     let size : length (lists.numbers ++ replicate n x) ≡ number_count lists + n = length-append lists.numbers (replicate n x) ∙ ap (λ (m : ℕ). number_count lists + m) (length-replicate n x) in
@@ -148,15 +122,9 @@ slots-extended bytes null array n row sound =
 pub length_set : {X : Type 0} (xs : List X) (i : ℕ) (x : X) → length (slice_set xs i x) ≡ length xs
 length_set xs i x = length-set xs i x
 
-pub flags-changed : (n : ℕ) (flags : Option (List Bool)) (i : ℕ) (bit : Bool) → AreFlagsOf n flags → AreFlagsOf n (changed_flag n flags i bit)
-flags-changed n None i true all = tt
-flags-changed n None i false all = length-set (replicate n true) i false ∙ length-replicate n true
-flags-changed n (Some bits) i true all = length-set bits i true ∙ all
-flags-changed n (Some bits) i false all = length-set bits i false ∙ all
-
 pub sound-changed : {T : Type 0} (lists : NumberLists T) (i : ℕ) (x : T) (bit : Bool) → AreSoundNumbers lists → AreSoundNumbers (number_lists (slice_set lists.numbers i x) (changed_flag (number_count lists) lists.flags i bit))
 sound-changed lists i x bit sound = record {
-  flagged = subst (λ (n : ℕ). AreFlagsOf n (changed_flag (number_count lists) lists.flags i bit)) (sym (length-set lists.numbers i x)) (flags-changed (number_count lists) lists.flags i bit sound.flagged);
+  flagged = subst (λ (n : ℕ). AreFlagsOf n (changed_flag (number_count lists) lists.flags i bit)) (sym (length-set lists.numbers i x)) (are_flags-changed (number_count lists) lists.flags i bit sound.flagged);
 }
 
 -- ---- room
@@ -223,17 +191,6 @@ map_same [] = refl
 map_same (x ∷ xs) = ap (λ ys. x ∷ ys) (map_same xs)
 
 -- the slots of a row that was changed
-set_alike : (n i : ℕ) → slice_set (replicate n true) i true ≡ replicate n true
-set_alike zero i = refl
-set_alike (suc n) zero = refl
-set_alike (suc n) (suc i) = ap (λ bits. true ∷ bits) (set_alike n i)
-
-flags_of-changed : (n : ℕ) (flags : Option (List Bool)) (i : ℕ) (bit : Bool) → flags_of n (changed_flag n flags i bit) ≡ slice_set (flags_of n flags) i bit
-flags_of-changed n None i true = sym (set_alike n i)
-flags_of-changed n None i false = refl
-flags_of-changed n (Some bits) i true = refl
-flags_of-changed n (Some bits) i false = refl
-
 slots_by-changed : (flags : List Bool) (values : List (List ℕ)) (i : ℕ) (bit : Bool) (bytes : List ℕ) → slots_by (slice_set flags i bit) (slice_set values i bytes) ≡ slice_set (slots_by flags values) i (record { valid = bit; bytes = bytes })
 slots_by-changed [] values i bit bytes = refl
 slots_by-changed (flag ∷ flags) [] zero bit bytes = refl
@@ -271,8 +228,6 @@ pub ruleset room = (room_of_less)
 pub ruleset joining = (sound_joined, flags-valid, flags-joined)
 
 pub ruleset extending = (sound_extended)
-
-pub ruleset constants = (joined-given, joined-nothing, joined-null)
 
 -- rows without a null, after numbers without flags
 values_after : {T : Type 0} (null : T) (dtype : ArrowDataType) (before values : List T) → grown (row_growth null) (number_array dtype (number_lists before None)) (map (λ value. Some value) values) ≡ number_array dtype (number_lists (before ++ values) None)

@@ -1,5 +1,5 @@
 -- The slots of a builder of numbers, and how they take a row.
-use Rattle.std.specs.Prelude.{◌≡◌, ℕ, Bool, true, List, [], ◌∷◌, ◌++◌, take, replicate, slice_set, ◌==◌, ◌||◌, if◌then◌else◌, Option, Some, None, option_map, unwrap_or, is_some}
+use Rattle.std.specs.Prelude.{◌≡◌, ℕ, Bool, true, List, [], ◌∷◌, ◌++◌, take, replicate, slice_set, Option, Some, None, option_map, unwrap_or, is_some}
 use Rattle.std.specs.List.{refill}
 use Rattle.std.specs.Borrow.{MutBor}
 use Rattle.std.specs.Fn.{Shared}
@@ -8,7 +8,7 @@ use Rattle.std.specs.Cmp.Lexicographic.{pointwise}
 use Rattle.column_base.specs.declared.datatypes.ArrowDataType.{ArrowDataType}
 use Rattle.column_base.specs.Kinds.{Slot}
 use Rattle.column_base.specs.Pushes.{Growth}
-use Rattle.column_storage.specs.Bits.{flags_of, frozen_flags, pushed_flag, joined_flags}
+use Rattle.column_storage.specs.Bits.{frozen_flags, pushed_flag, joined_flags, constant_flags, changed_flag}
 use Rattle.column_primitive.specs.Numbers.{NumberLists, number_lists, number_count, number_rows, NumberArray, number_array}
 
 -- This library's own: a growing array, and how many more slots it takes without further memory.
@@ -55,20 +55,11 @@ joined_array array others = number_array array.dtype (number_lists
     (array.lists.numbers ++ others.numbers)
     (joined_flags (number_count array.lists) array.lists.flags (number_count others) others.flags))
 
--- flags of n slots that are alike, given where one is null
-abbrev pub constant_flags : ℕ → Bool → Option (List Bool)
-constant_flags n bit = if bit || n == 0 then None else Some (replicate n bit)
-
 -- the array with n more slots of one row
 abbrev pub extended_row : {T : Type 0} → T → NumberArray T → ℕ → Option T → NumberArray T
 extended_row null array n row = number_array array.dtype (number_lists
     (array.lists.numbers ++ replicate n (stored null row))
     (joined_flags (number_count array.lists) array.lists.flags n (constant_flags n (is_some row))))
-
--- The flags of n slots, where one has another flag than it had. Flags are given from the first null on.
-abbrev pub changed_flag : ℕ → Option (List Bool) → ℕ → Bool → Option (List Bool)
-changed_flag n None i true = None
-changed_flag n flags i bit = Some (slice_set (flags_of n flags) i bit)
 
 -- the array where slot i is another row
 abbrev pub changed_row : {T : Type 0} → T → NumberArray T → ℕ → Option T → NumberArray T

@@ -6,20 +6,20 @@ ghost use Rattle.std.specs.Borrow.{Lends, Array, sem};
 ghost use Rattle.column_base.specs.DataTypes.{default_type};
 ghost use Rattle.column_base.specs.Answers.{Gives, Answers};
 ghost use Rattle.column_base.specs.Slots.{slot_at};
-ghost use Rattle.column_storage.specs.Bits.{GrowingBits, bits_given, joined_flags};
+ghost use Rattle.column_storage.specs.Bits.{GrowingBits, bits_given};
 ghost use Rattle.column_storage.specs.Validity.{AreFlagsOf};
 ghost use Rattle.column_primitive.specs.Types.{number_type_fault};
 ghost use Rattle.column_primitive.specs.Numbers.{number_lists, number_array, number_slots, number_count, number_at, number_array_fault, AreSoundNumbers, IsSoundArray};
 ghost use Rattle.column_primitive.specs.contracts.builder.MutablePrimitiveArray.{the_row};
-ghost use Rattle.column_primitive.specs.Rows.{no_numbers, stored, pushed_row, first_array, frozen_array, joined_array, constant_flags, extended_row, changed_flag, changed_row, with_numbers, with_flags, rewritten, LeavesNumbers};
+ghost use Rattle.column_primitive.specs.Rows.{no_numbers, stored, pushed_row, first_array, frozen_array, joined_array, extended_row, changed_row, with_numbers, with_flags, rewritten, LeavesNumbers};
 
 use crate::array::PrimitiveArray;
 use crate::types::check_number_type;
 use column_base::{ArrowDataType, Growing, NativeType, PolarsError, TryExtendFromSelf, TryPush};
 use column_storage::{
-    Buffer, MutableArray, MutableBitmap, add_flags, apply_flags, check_flags, clone_flags, flag_at,
-    freeze_flags, push_null_flag, push_valid_flag, reserve_flags, room_for_flags, shrink_flags,
-    truncate_flags,
+    Buffer, MutableArray, MutableBitmap, add_flags, apply_flags, check_flags, clone_flags,
+    extend_constant_flags, flag_at, freeze_flags, push_null_flag, push_valid_flag, reserve_flags,
+    room_for_flags, set_flag, shrink_flags, truncate_flags,
 };
 use std::alloc::Global;
 use std::marker::Model;
@@ -374,7 +374,7 @@ impl<T: NativeType> MutablePrimitiveArray<T> {
     {
         let alloc = *self.values.allocator();
         let count = self.values.len();
-        change_flag(alloc, &mut self.validity, count, index, value.is_some())?;
+        set_flag(alloc, &mut self.validity, count, index, value.is_some())?;
         self.values[index] = or_zero(value);
         Ok(())
     }
@@ -397,32 +397,6 @@ fn or_zero<T: NativeType>(row: Option<T>) -> T
         Some(value) => value,
         None => T::zero(),
     }
-}
-
-// Gives slot `index` of `count` ones another flag, and makes a validity where there is none and the slot becomes null.
-fn change_flag(
-    alloc: Global,
-    validity: &mut Option<MutableBitmap>,
-    count: usize,
-    index: usize,
-    is_valid: bool,
-) -> Result<(), PolarsError>
-    requires given { AreFlagsOf count (bits_given validity.old) }
-    requires within { index < count }
-    ensures answer { Answers result None (λ _. bits_given validity.new ≡ changed_flag count (bits_given validity.old) index is_valid) }
-    ensures unchanged { OnErr result (validity.new ≡ validity.old) }
-{
-    if let Some(bits) = validity {
-        bits.set(index, is_valid);
-        return Ok(());
-    }
-    if is_valid {
-        return Ok(());
-    }
-    let mut bits = MutableBitmap::from_len_set(alloc, count)?;
-    bits.set(index, false);
-    *validity = Some(bits);
-    Ok(())
 }
 
 // ---- a slot more, a slot less
@@ -540,7 +514,7 @@ impl<T: NativeType> MutablePrimitiveArray<T> {
         let alloc = *self.values.allocator();
         let count = self.values.len();
         self.values.reserve(additional)?;
-        extend_flags(
+        extend_constant_flags(
             alloc,
             &mut self.validity,
             count,
@@ -591,31 +565,6 @@ impl<T: NativeType> MutablePrimitiveArray<T> {
         add_flags(&mut self.validity, made, other.validity.as_ref(), added);
         Ok(())
     }
-}
-
-// Adds the flags of `added` slots that are alike after those of `count` ones, and makes a validity where there is none
-// and they are null.
-#[tactic(auto, using(crate::proofs::RowsLemmas::constants))]
-fn extend_flags(
-    alloc: Global,
-    validity: &mut Option<MutableBitmap>,
-    count: usize,
-    added: usize,
-    is_valid: bool,
-) -> Result<(), PolarsError>
-    ensures answer { Answers result None (λ _. bits_given validity.new ≡ joined_flags count (bits_given validity.old) added (constant_flags added is_valid)) }
-    ensures unchanged { OnErr result (validity.new ≡ validity.old) }
-{
-    if let Some(bits) = validity {
-        return bits.extend_constant(added, is_valid);
-    }
-    if is_valid || added == 0 {
-        return Ok(());
-    }
-    let mut bits = MutableBitmap::from_len_set(alloc, count)?;
-    bits.extend_constant(added, false)?;
-    *validity = Some(bits);
-    Ok(())
 }
 
 impl<T: NativeType> Growing for MutablePrimitiveArray<T> {

@@ -1,11 +1,12 @@
 -- Laws of flags that grow or are cut back, and of the slots that they make beside values.
-use Rattle.std.proofs.Common.{◌≡◌, ℕ, ◌+◌, ◌≤◌, Bool, true, false, List, [], ◌∷◌, ◌++◌, length, take, replicate, Option, Some, None, refl, sym, ◌∙◌, ap, arith}
-use Rattle.std.specs.Prelude.{option_map, is_some, if◌then◌else◌}
+use Rattle.std.proofs.Common.{◌≡◌, ℕ, zero, suc, ◌+◌, ◌<◌, ◌≤◌, Bool, true, false, List, [], ◌∷◌, ◌++◌, length, take, replicate, Option, Some, None, refl, sym, ◌∙◌, ap, subst, arith, length-set}
+use Rattle.std.specs.Prelude.{option_map, is_some, if◌then◌else◌, slice_set}
+use Rattle.std.proofs.lemmas.Bool.Decides.{nat_tests}
 use Rattle.std.proofs.lemmas.List.{length-append, length-replicate, length-take-le, replicate-append-replicate, take-replicate}
 use Rattle.column_base.specs.Kinds.{Slot}
 use Rattle.column_base.specs.Slots.{slots_by}
 use Rattle.column_base.proofs.SlotsLemmas.{slots_by-sublist}
-use Rattle.column_storage.specs.Bits.{flags_of, frozen_flags, pushed_flag, joined_flags}
+use Rattle.column_storage.specs.Bits.{flags_of, frozen_flags, pushed_flag, joined_flags, constant_flags, changed_flag}
 use Rattle.column_storage.specs.Slots.{flagged_slots}
 use Rattle.column_storage.specs.Validity.{AreFlagsOf}
 use Rattle.column_storage.proofs.FlagsLemmas.{length-flags_of, flags_of-kept, length-kept_flags}
@@ -63,6 +64,56 @@ pub flags_of-frozen : (flags : Option (List Bool)) (n : ℕ) → AreFlagsOf n fl
 flags_of-frozen None n all = refl
 flags_of-frozen (Some bits) n all = flags_of-kept bits n all
 
+-- ---- flags of slots that are alike, and a flag that is changed
+
+pub flags_of-constant : (n : ℕ) (bit : Bool) → flags_of n (constant_flags n bit) ≡ replicate n bit
+flags_of-constant zero true = refl
+flags_of-constant zero false = refl
+flags_of-constant (suc n) true = refl
+flags_of-constant (suc n) false = grind (arith, nat_tests)
+
+pub joined-given : (n : ℕ) (bits : List Bool) (m : ℕ) (bit : Bool) → joined_flags n (Some bits) m (constant_flags m bit) ≡ Some (bits ++ replicate m bit)
+joined-given n bits m bit = ap (λ (flags : List Bool). Some (bits ++ flags)) (flags_of-constant m bit)
+
+pub joined-nothing : (n m : ℕ) (bit : Bool) → m ≡ 0 → joined_flags n None m (constant_flags m bit) ≡ None
+joined-nothing n m true none = refl
+joined-nothing n m false none = rw none refl
+
+pub joined-null : (n m : ℕ) → 0 < m → joined_flags n None m (constant_flags m false) ≡ Some (replicate n true ++ replicate m false)
+joined-null n zero some = absurd (omega arith)
+joined-null n (suc m) some = grind (arith, nat_tests)
+
+-- the flags of null slots after others
+pub joined-nulls : (n : ℕ) (flags : Option (List Bool)) (m : ℕ) → 0 < m → joined_flags n flags m (constant_flags m false) ≡ Some (flags_of n flags ++ replicate m false)
+joined-nulls n None m some = joined-null n m some
+joined-nulls n (Some bits) m some = joined-given n bits m false
+
+constant-null : (n : ℕ) → 0 < n → constant_flags n false ≡ Some (replicate n false)
+constant-null n some = grind (arith, nat_tests)
+
+pub are_flags-constant : (n : ℕ) (bit : Bool) → AreFlagsOf n (constant_flags n bit)
+are_flags-constant zero true = tt
+are_flags-constant zero false = tt
+are_flags-constant (suc n) true = tt
+are_flags-constant (suc n) false = subst (λ (flags : Option (List Bool)). AreFlagsOf (suc n) flags) (sym (constant-null (suc n) (omega arith))) (length-replicate (suc n) false)
+
+pub are_flags-changed : (n : ℕ) (flags : Option (List Bool)) (i : ℕ) (bit : Bool) → AreFlagsOf n flags → AreFlagsOf n (changed_flag n flags i bit)
+are_flags-changed n None i true all = tt
+are_flags-changed n None i false all = length-set (replicate n true) i false ∙ length-replicate n true
+are_flags-changed n (Some bits) i true all = length-set bits i true ∙ all
+are_flags-changed n (Some bits) i false all = length-set bits i false ∙ all
+
+set_alike : (n i : ℕ) → slice_set (replicate n true) i true ≡ replicate n true
+set_alike zero i = refl
+set_alike (suc n) zero = refl
+set_alike (suc n) (suc i) = ap (λ bits. true ∷ bits) (set_alike n i)
+
+pub flags_of-changed : (n : ℕ) (flags : Option (List Bool)) (i : ℕ) (bit : Bool) → flags_of n (changed_flag n flags i bit) ≡ slice_set (flags_of n flags) i bit
+flags_of-changed n None i true = sym (set_alike n i)
+flags_of-changed n None i false = refl
+flags_of-changed n (Some bits) i true = refl
+flags_of-changed n (Some bits) i false = refl
+
 -- ---- slots
 
 slots_by-append : (fs gs : List Bool) (ps qs : List (List ℕ)) → length fs ≡ length ps → slots_by (fs ++ gs) (ps ++ qs) ≡ slots_by fs ps ++ slots_by gs qs
@@ -108,3 +159,5 @@ pub ruleset joined_slots = (are_flags-joined, flagged_slots-joined)
 pub ruleset first_slots = (are_flags-first, flagged_slots-first)
 
 pub ruleset frozen_slots = (are_flags-frozen, flagged_slots-frozen)
+
+pub ruleset constants = (joined-given, joined-nothing, joined-null)

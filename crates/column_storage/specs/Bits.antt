@@ -1,5 +1,5 @@
 -- Lists of truth values, and what they say of the values beside them.
-use Rattle.std.specs.Prelude.{ℕ, ◌+◌, min, Bool, true, not, List, [], ◌∷◌, ◌++◌, replicate, slice_get, count_by, Option, Some, None, option_map, ◌==◌, if◌then◌else◌}
+use Rattle.std.specs.Prelude.{ℕ, ◌+◌, min, Bool, true, ◌||◌, not, List, [], ◌∷◌, ◌++◌, replicate, slice_get, slice_set, count_by, Option, Some, None, option_map, ◌==◌, if◌then◌else◌}
 use Rattle.std.specs.Option.{option_and_then, option_to_list}
 use Rattle.column_base.specs.Lists.{sublist}
 use Rattle.column_base.specs.Pushes.{Growth}
@@ -49,6 +49,15 @@ pushed_flag n flags bit = Some (flags_of n flags ++ bit ∷ [])
 abbrev pub joined_flags : ℕ → Option (List Bool) → ℕ → Option (List Bool) → Option (List Bool)
 joined_flags n None m None = None
 joined_flags n flags m others = Some (flags_of n flags ++ flags_of m others)
+
+-- the flags of n slots that are alike, given where they are null
+abbrev pub constant_flags : ℕ → Bool → Option (List Bool)
+constant_flags n bit = if bit || n == 0 then None else Some (replicate n bit)
+
+-- The flags of n slots, where one has another flag than it had. Flags are given from the first null on.
+abbrev pub changed_flag : ℕ → Option (List Bool) → ℕ → Bool → Option (List Bool)
+changed_flag n None i true = None
+changed_flag n flags i bit = Some (slice_set (flags_of n flags) i bit)
 
 -- the places of set bits, where the first bit has the given place
 abbrev pub set_places : ℕ → List Bool → List ℕ

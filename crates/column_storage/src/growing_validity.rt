@@ -6,7 +6,7 @@
 ghost use Rattle.std.specs.Prelude.{◌≡◌, ℕ, ◌+◌, ◌-◌, ◌<◌, ◌≤◌, length, take, ◌++◌, if◌then◌else◌, option_map, true, false, None, Some, IsOk, OnErr, IfSome, MatchOption};
 ghost use Rattle.std.specs.Option.{option_or, option_copied};
 ghost use Rattle.column_base.specs.Answers.{Answers, GivesCause};
-ghost use Rattle.column_storage.specs.Bits.{bits_given, flags_of, frozen_flags, pushed_flag, spare_beside};
+ghost use Rattle.column_storage.specs.Bits.{bits_given, changed_flag, constant_flags, flags_of, frozen_flags, joined_flags, pushed_flag, spare_beside};
 ghost use Rattle.column_storage.specs.Validity.{AreFlagsOf, flags_fault, is_valid_at};
 
 use crate::bitmap::Bitmap;
@@ -173,6 +173,62 @@ fn append_flags(bits: &mut MutableBitmap, others: Option<&MutableBitmap>, added:
         Ok(()) => {}
         Err(_) => unreachable!(),
     }
+}
+
+/// Adds the flags of `added` slots that are all valid or all null after those of `count` ones, and makes a validity where
+/// there is none and some are null.
+///
+/// `NoMemory` where there is none for the flags, and never for those of valid slots where there is room.
+#[tactic(auto, using(crate::proofs::GrowingFlagsLemmas::constants))]
+pub fn extend_constant_flags(
+    alloc: Global,
+    validity: &mut Option<MutableBitmap>,
+    count: usize,
+    added: usize,
+    is_valid: bool,
+) -> Result<(), PolarsError>
+    ensures answer { Answers result None (λ _. bits_given validity.new ≡ joined_flags count (bits_given validity.old) added (constant_flags added is_valid)) }
+    ensures spare_serves { is_valid ≡ true → added ≤ spare_beside validity.old added → IsOk result }
+    ensures unchanged { OnErr result (validity.new ≡ validity.old) }
+{
+    if let Some(bits) = validity {
+        return bits.extend_constant(added, is_valid);
+    }
+    if is_valid || added == 0 {
+        return Ok(());
+    }
+    let mut bits = MutableBitmap::from_len_set(alloc, count)?;
+    bits.extend_constant(added, false)?;
+    *validity = Some(bits);
+    Ok(())
+}
+
+/// Gives slot `index` of `count` ones another flag, and makes a validity where there is none and the slot becomes null.
+///
+/// `NoMemory` where there is none for a validity that is made.
+pub fn set_flag(
+    alloc: Global,
+    validity: &mut Option<MutableBitmap>,
+    count: usize,
+    index: usize,
+    is_valid: bool,
+) -> Result<(), PolarsError>
+    requires given { AreFlagsOf count (bits_given validity.old) }
+    requires within { index < count }
+    ensures answer { Answers result None (λ _. bits_given validity.new ≡ changed_flag count (bits_given validity.old) index is_valid) }
+    ensures unchanged { OnErr result (validity.new ≡ validity.old) }
+{
+    if let Some(bits) = validity {
+        bits.set(index, is_valid);
+        return Ok(());
+    }
+    if is_valid {
+        return Ok(());
+    }
+    let mut bits = MutableBitmap::from_len_set(alloc, count)?;
+    bits.set(index, false);
+    *validity = Some(bits);
+    Ok(())
 }
 
 /// Puts what `f` makes of the validity in its place, where one is given.

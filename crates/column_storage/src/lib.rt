@@ -24,9 +24,9 @@ pub use bitmap_iter::BitmapIter;
 pub use buffer::Buffer;
 pub use data_buffers::{DataBuffers, MAX_BUFFERS};
 pub use growing_validity::{
-    add_flags, apply_flags, check_flags, clone_flags, flag_at, flags_into_mut, freeze_flags,
-    pop_flag, push_null_flag, push_valid_flag, reserve_flags, room_for_flags, shrink_flags,
-    truncate_flags,
+    add_flags, apply_flags, check_flags, clone_flags, extend_constant_flags, flag_at,
+    flags_into_mut, freeze_flags, pop_flag, push_null_flag, push_valid_flag, reserve_flags,
+    room_for_flags, set_flag, shrink_flags, truncate_flags,
 };
 pub use laws::{
     flags_of_part, frozen_slots_are_same, no_fault_is_as_many, nulls_of_slots, rows_of_slots,

@@ -2,8 +2,6 @@
 
 pub mod bits;
 pub mod buffers;
-pub mod counts;
-pub mod ends;
 pub mod growing;
 pub mod iterators;
 pub mod validity;

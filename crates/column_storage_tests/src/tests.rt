@@ -4,4 +4,5 @@ mod bits;
 mod buffers;
 mod growing;
 mod iterators;
+mod laws;
 mod validity;

@@ -1,6 +1,7 @@
 -- Laws of views.
 use Rattle.std.proofs.Common.{◌≡◌, ℕ, zero, suc, ◌+◌, ◌-◌, ◌^◌, ◌<◌, ◌≤◌, true, false, not, ◌==◌, List, [], ◌∷◌, ◌++◌, length, take, drop, slice_get, replicate, slice_range, Some, None, refl, sym, ◌∙◌, ap, arith}
 use Rattle.std.proofs.lemmas.Bool.Decides.{nat_tests}
+use Rattle.std.proofs.lemmas.List.Sums.{sum_by_more}
 use Rattle.std.specs.List.{list_any}
 use Rattle.std.specs.Int.{w32, to_le_bytes, from_le_bytes}
 use Rattle.std.specs.Str.{bytes_eq}
@@ -208,3 +209,5 @@ module _ (view : List ℕ) (index : ℕ) (count : length view ≡ 16) where
 
 pub long_length : (view : List ℕ) → is_long view ≡ true → 12 < view_length view
 long_length view long = grind (arith, nat_tests)
+
+pub ruleset sums = (sum_by_more)

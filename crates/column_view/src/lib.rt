@@ -3,6 +3,7 @@
 #![tactic(auto)]
 
 mod laws;
+mod lengths;
 mod strided;
 mod validate;
 mod view;
@@ -11,6 +12,7 @@ pub use laws::{
     inline_views_are_contents, made_view_says_its_bytes, no_fault_in_each,
     other_place_keeps_the_rest, texts_are_byte_strings,
 };
+pub use lengths::sum_of_lengths;
 pub use validate::{
     check_contents, check_views, validate_binary_view, validate_utf8_only, validate_utf8_view,
 };

@@ -7,8 +7,8 @@ use crate::cases::{Held, LONG, SHORT, buffers_of, long, view};
 use column_base::{Cause, PolarsError};
 use column_storage::DataBuffers;
 use column_view::{
-    View, check_contents, check_views, no_fault_in_each, validate_binary_view, validate_utf8_only,
-    validate_utf8_view,
+    View, check_contents, check_views, no_fault_in_each, sum_of_lengths, validate_binary_view,
+    validate_utf8_only, validate_utf8_view,
 };
 use std::alloc::Global;
 
@@ -92,6 +92,13 @@ pub fn contents_are(alloc: Global) -> Result<bool, PolarsError> {
     let short = [view(SHORT)];
     let named = [view(long(1, 1))];
     Ok(check_views(&short, &buffers, true).is_ok() && check_views(&named, &buffers, true).is_ok())
+}
+
+pub fn lengths_are_added() -> bool {
+    let most = view([255; 16]);
+    sum_of_lengths(&[]) == 0
+        && sum_of_lengths(&[view(SHORT), view(long(1, 1)), view(SHORT)]) == 19
+        && sum_of_lengths(&[most, most]) == 8_589_934_590
 }
 
 // ---- faults

@@ -2,8 +2,8 @@
 
 use crate::cases::{Held, LONG, SHORT, long, view};
 use crate::checks::{
-    contents_are, cut_is, faults_are, inlined_is, long_is, numbers_are, one_content_is,
-    other_place_is, short_is, texts_are, twelve_is,
+    contents_are, cut_is, faults_are, inlined_is, lengths_are_added, long_is, numbers_are,
+    one_content_is, other_place_is, short_is, texts_are, twelve_is,
 };
 use column_base::Cause;
 use column_view::{
@@ -16,6 +16,7 @@ use std::test::Fail;
 fn views_are_made(rt: HostRuntime) {
     assert!(rt; short_is() && twelve_is() && long_is());
     assert!(rt; other_place_is() && numbers_are());
+    assert!(rt; lengths_are_added());
 }
 
 #[test]

@@ -1,6 +1,8 @@
 //! Buffers.
 
-use crate::cases::{numbers, three, two_buffers};
+ghost use Rattle.std.specs.Prelude.{◌+◌, ◌≤◌, length};
+
+use crate::cases::{four, numbers, two_buffers};
 use column_base::PolarsError;
 use column_storage::{ArrayAccessor, Buffer, DataBuffers};
 use std::alloc::Global;
@@ -12,75 +14,67 @@ fn numbers_are(buffer: &Buffer<i32>, wanted: &[i32]) -> bool {
         && buffer.as_slice() == wanted
 }
 
-fn part_is(buffer: Buffer<i32>, from: usize, length: usize, wanted: &[i32]) -> bool {
+// ---- parts
+
+/// How a part is taken.
+#[derive(Clone, Copy, Debug)]
+pub enum Call {
+    Sliced,
+    Slice,
+    SliceUnchecked,
+}
+
+fn kept(mut buffer: Buffer<i32>, from: usize, count: usize) -> Buffer<i32>
+    requires { from + count ≤ length buffer }
+{
+    buffer.slice(from, count);
+    buffer
+}
+
+fn kept_unchecked(mut buffer: Buffer<i32>, from: usize, count: usize) -> Buffer<i32>
+    requires { from + count ≤ length buffer }
+{
+    buffer.slice_unchecked(from, count);
+    buffer
+}
+
+fn part(buffer: Buffer<i32>, call: Call, from: usize, count: usize) -> Buffer<i32>
+    requires { from + count ≤ length buffer }
+{
+    match call {
+        Call::Sliced => buffer.sliced(from, count),
+        Call::Slice => kept(buffer, from, count),
+        Call::SliceUnchecked => kept_unchecked(buffer, from, count),
+    }
+}
+
+fn part_is(buffer: Buffer<i32>, call: Call, from: usize, count: usize, wanted: &[i32]) -> bool {
     from <= buffer.len()
-        && length <= buffer.len() - from
-        && numbers_are(&buffer.sliced(from, length), wanted)
+        && count <= buffer.len() - from
+        && numbers_are(&part(buffer, call, from, count), wanted)
 }
 
-fn kept_is(buffer: Buffer<i32>, from: usize, length: usize, wanted: &[i32]) -> bool {
-    let mut buffer = buffer;
-    if from > buffer.len() || length > buffer.len() - from {
-        return false;
-    }
-    buffer.slice(from, length);
-    numbers_are(&buffer, wanted)
-}
-
-fn kept_unchecked_is(buffer: Buffer<i32>, from: usize, length: usize, wanted: &[i32]) -> bool {
-    let mut buffer = buffer;
-    if from > buffer.len() || length > buffer.len() - from {
-        return false;
-    }
-    buffer.slice_unchecked(from, length);
-    numbers_are(&buffer, wanted)
-}
-
-fn three_give(
+/// Of four numbers.
+pub fn four_give(
     alloc: Global,
+    call: Call,
     from: usize,
-    length: usize,
+    count: usize,
     wanted: &[i32],
 ) -> Result<bool, PolarsError> {
-    Ok(part_is(three(alloc)?, from, length, wanted))
+    Ok(part_is(four(alloc)?, call, from, count, wanted))
 }
 
-fn three_keep(
-    alloc: Global,
-    from: usize,
-    length: usize,
-    wanted: &[i32],
-) -> Result<bool, PolarsError> {
-    Ok(kept_is(three(alloc)?, from, length, wanted))
-}
-
-fn three_keep_unchecked(
-    alloc: Global,
-    from: usize,
-    length: usize,
-    wanted: &[i32],
-) -> Result<bool, PolarsError> {
-    Ok(kept_unchecked_is(three(alloc)?, from, length, wanted))
-}
-
-// A slice of a share, and of a slice: the whole stays as it was.
-fn share_gives(
-    alloc: Global,
-    buffer: &Buffer<i32>,
-    from: usize,
-    length: usize,
-    wanted: &[i32],
-) -> Result<bool, PolarsError> {
-    Ok(part_is(buffer.try_clone(alloc)?, from, length, wanted))
-}
-
-pub fn slices_share_three(alloc: Global) -> Result<bool, PolarsError> {
-    let buffer = three(alloc)?;
+fn share_stays(alloc: Global, buffer: &Buffer<i32>) -> Result<bool, PolarsError> {
     Ok(
-        share_gives(alloc, &buffer, 1, 2, &[20, 30])?
-            && share_gives(alloc, &buffer, 0, 3, &[10, 20, 30])?
-            && numbers_are(&buffer, &[10, 20, 30]),
+        part_is(buffer.try_clone(alloc)?, Call::Slice, 1, 2, &[20, 30])
+            && numbers_are(buffer, &[10, 20, 30, 40]),
     )
+}
+
+/// A slice of a share: the whole stays as it was.
+pub fn four_stay(alloc: Global) -> Result<bool, PolarsError> {
+    share_stays(alloc, &four(alloc)?)
 }
 
 fn halves_are(
@@ -97,67 +91,36 @@ fn halves_are(
     Ok(numbers_are(&one, front) && numbers_are(&other, back))
 }
 
-pub fn three_split(
+pub fn four_split(
     alloc: Global,
     place: usize,
     front: &[i32],
     back: &[i32],
 ) -> Result<bool, PolarsError> {
-    let buffer = three(alloc)?;
-    halves_are(alloc, &buffer, place, front, back)
+    halves_are(alloc, &four(alloc)?, place, front, back)
 }
 
-// A vector that no other buffer shares is cut in place.
-fn vector_is(
-    alloc: Global,
-    buffer: Buffer<i32>,
-    from: usize,
-    length: usize,
-    wanted: &[i32],
-) -> Result<bool, PolarsError> {
-    if from > buffer.len() || length > buffer.len() - from {
+// ---- vectors
+
+fn middle_is_vector(alloc: Global, buffer: Buffer<i32>) -> Result<bool, PolarsError> {
+    if buffer.len() != 4 {
         return Ok(false);
     }
-    Ok(buffer.sliced(from, length).make_mut(alloc)?.as_slice() == wanted)
+    Ok(buffer.sliced(1, 2).make_mut(alloc)?.as_slice() == [20, 30].as_slice())
 }
 
-fn three_become(
-    alloc: Global,
-    from: usize,
-    length: usize,
-    wanted: &[i32],
-) -> Result<bool, PolarsError> {
-    vector_is(alloc, three(alloc)?, from, length, wanted)
+/// A vector that no other buffer shares is cut in place.
+pub fn own_vector_is_cut(alloc: Global) -> Result<bool, PolarsError> {
+    middle_is_vector(alloc, four(alloc)?)
 }
 
-// One that is shared is copied.
-fn shared_three_become(
-    alloc: Global,
-    from: usize,
-    length: usize,
-    wanted: &[i32],
-) -> Result<bool, PolarsError> {
-    let buffer = three(alloc)?;
-    Ok(
-        vector_is(alloc, buffer.try_clone(alloc)?, from, length, wanted)?
-            && numbers_are(&buffer, &[10, 20, 30]),
-    )
+fn share_is_copied(alloc: Global, buffer: &Buffer<i32>) -> Result<bool, PolarsError> {
+    middle_is_vector(alloc, buffer.try_clone(alloc)?)
 }
 
-/// Every way to the same part.
-pub fn three_are_cut(
-    alloc: Global,
-    from: usize,
-    length: usize,
-    wanted: &[i32],
-) -> Result<bool, PolarsError> {
-    Ok(
-        three_give(alloc, from, length, wanted)?
-            && three_keep(alloc, from, length, wanted)?
-            && three_keep_unchecked(alloc, from, length, wanted)?
-            && three_become(alloc, from, length, wanted)?
-            && shared_three_become(alloc, from, length, wanted)?,
-    )
+/// One that is shared is copied.
+pub fn shared_vector_is_copied(alloc: Global) -> Result<bool, PolarsError> {
+    share_is_copied(alloc, &four(alloc)?)
 }
 
 pub fn none_is_empty(alloc: Global) -> Result<bool, PolarsError> {
@@ -177,7 +140,7 @@ pub fn vector_comes_or_goes_back(alloc: Global) -> Result<bool, PolarsError> {
 
 // ---- lists of buffers
 
-// As a number that fits 32 bits.
+// as a number that fits 32 bits
 fn count_of(buffers: &DataBuffers) -> i32 {
     buffers.known();
     buffers.len() as i32
@@ -187,8 +150,8 @@ fn two_are(buffers: &DataBuffers) -> bool {
     count_of(buffers) == 2
         && buffers.len() == 2
         && !buffers.is_empty()
-        && buffers.total_len() == 6
-        && buffers.get(1).as_slice() == [3u8, 1, 4].as_slice()
+        && buffers.total_len() == 3
+        && buffers.get(1).as_slice() == [1u8, 4].as_slice()
 }
 
 pub fn two_buffers_are_counted(alloc: Global) -> Result<bool, PolarsError> {
@@ -199,16 +162,22 @@ fn share_is(alloc: Global, buffers: &DataBuffers) -> Result<bool, PolarsError> {
     Ok(two_are(&buffers.try_clone(alloc)?))
 }
 
+pub fn two_buffers_are_shared(alloc: Global) -> Result<bool, PolarsError> {
+    share_is(alloc, &two_buffers(alloc)?)
+}
+
 fn vector_has_two(alloc: Global, buffers: &DataBuffers) -> Result<bool, PolarsError> {
     Ok(buffers.to_vec(alloc)?.len() == 2)
 }
 
-pub fn two_buffers_are_shared(alloc: Global) -> Result<bool, PolarsError> {
-    let buffers = two_buffers(alloc)?;
-    Ok(share_is(alloc, &buffers)? && vector_has_two(alloc, &buffers)?)
+pub fn two_buffers_are_a_vector(alloc: Global) -> Result<bool, PolarsError> {
+    vector_has_two(alloc, &two_buffers(alloc)?)
+}
+
+fn are_none(buffers: &DataBuffers) -> bool {
+    buffers.is_empty() && buffers.len() == 0 && buffers.total_len() == 0
 }
 
 pub fn no_buffers_are_empty(alloc: Global) -> Result<bool, PolarsError> {
-    let buffers = DataBuffers::empty(alloc)?;
-    Ok(buffers.is_empty() && buffers.len() == 0 && buffers.total_len() == 0)
+    Ok(are_none(&DataBuffers::empty(alloc)?))
 }

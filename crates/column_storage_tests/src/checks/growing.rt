@@ -1,12 +1,11 @@
-//! Validities that grow, bits that take others, and builders.
+//! Validities that grow, and bits that take others.
 
-use crate::builder::Numbers;
-use column_base::{ArrowDataType, Cause, PolarsError, TryExtend, TryExtendFromSelf, TryPush};
-use column_checks::{gives, grown_flags_are};
+use column_base::{Cause, PolarsError, TryExtend, TryExtendFromSelf, TryPush};
+use column_checks::{Flags, gives, grown_flags_are};
 use column_storage::{
-    MutableArray, MutableBitmap, add_flags, apply_flags, check_flags, clone_flags, flag_at,
-    flags_into_mut, freeze_flags, pop_flag, push_null_flag, push_valid_flag, reserve_flags,
-    room_for_flags, shrink_flags, truncate_flags,
+    MutableBitmap, add_flags, apply_flags, check_flags, clone_flags, extend_constant_flags,
+    flag_at, flags_into_mut, freeze_flags, pop_flag, push_null_flag, push_valid_flag,
+    reserve_flags, room_for_flags, set_flag, shrink_flags, truncate_flags,
 };
 use std::alloc::Global;
 
@@ -35,19 +34,11 @@ fn pushed(alloc: Global, flags: &[bool]) -> Result<Option<MutableBitmap>, Polars
     Ok(validity)
 }
 
-pub fn pushes_leave(
-    alloc: Global,
-    flags: &[bool],
-    wanted: Option<&[bool]>,
-) -> Result<bool, PolarsError> {
+pub fn pushes_leave(alloc: Global, flags: &[bool], wanted: Flags<'_>) -> Result<bool, PolarsError> {
     Ok(grown_flags_are(pushed(alloc, flags)?.as_ref(), wanted))
 }
 
-pub fn pop_leaves(
-    alloc: Global,
-    flags: &[bool],
-    wanted: Option<&[bool]>,
-) -> Result<bool, PolarsError> {
+pub fn pop_leaves(alloc: Global, flags: &[bool], wanted: Flags<'_>) -> Result<bool, PolarsError> {
     let mut validity = pushed(alloc, flags)?;
     pop_flag(&mut validity);
     Ok(grown_flags_are(validity.as_ref(), wanted))
@@ -57,11 +48,38 @@ pub fn cut_leaves(
     alloc: Global,
     flags: &[bool],
     count: usize,
-    wanted: Option<&[bool]>,
+    wanted: Flags<'_>,
 ) -> Result<bool, PolarsError> {
     let mut validity = pushed(alloc, flags)?;
     truncate_flags(&mut validity, count);
     shrink_flags(&mut validity);
+    Ok(grown_flags_are(validity.as_ref(), wanted))
+}
+
+pub fn constant_leaves(
+    alloc: Global,
+    flags: &[bool],
+    added: usize,
+    flag: bool,
+    wanted: Flags<'_>,
+) -> Result<bool, PolarsError> {
+    let mut validity = pushed(alloc, flags)?;
+    extend_constant_flags(alloc, &mut validity, flags.len(), added, flag)?;
+    Ok(grown_flags_are(validity.as_ref(), wanted))
+}
+
+pub fn set_leaves(
+    alloc: Global,
+    flags: &[bool],
+    index: usize,
+    flag: bool,
+    wanted: Flags<'_>,
+) -> Result<bool, PolarsError> {
+    let mut validity = pushed(alloc, flags)?;
+    if check_flags(validity.as_ref(), flags.len()).is_err() || index >= flags.len() {
+        return Ok(false);
+    }
+    set_flag(alloc, &mut validity, flags.len(), index, flag)?;
     Ok(grown_flags_are(validity.as_ref(), wanted))
 }
 
@@ -86,7 +104,7 @@ fn joined_are(
     flags: &[bool],
     others: Option<&MutableBitmap>,
     added: usize,
-    wanted: Option<&[bool]>,
+    wanted: Flags<'_>,
 ) -> Result<bool, PolarsError> {
     let mut validity = pushed(alloc, flags)?;
     Ok(
@@ -99,7 +117,7 @@ pub fn both_leave(
     alloc: Global,
     flags: &[bool],
     others: &[bool],
-    wanted: Option<&[bool]>,
+    wanted: Flags<'_>,
 ) -> Result<bool, PolarsError> {
     let validity = pushed(alloc, others)?;
     joined_are(alloc, flags, validity.as_ref(), others.len(), wanted)
@@ -111,23 +129,30 @@ fn flag_is(validity: Option<&MutableBitmap>, count: usize, i: usize, wanted: boo
     i < count && check_flags(validity, count).is_ok() && flag_at(validity, i) == wanted
 }
 
-pub fn flags_are_read(alloc: Global) -> Result<bool, PolarsError> {
-    let validity = pushed(alloc, &[true, false])?;
-    Ok(
-        flag_is(validity.as_ref(), 2, 0, true)
-            && flag_is(validity.as_ref(), 2, 1, false)
-            && flag_is(None, 2, 1, true)
-            && check_flags(validity.as_ref(), 3).err() == Some(Cause::ValidityLength),
-    )
+fn two_are_read(validity: Option<&MutableBitmap>) -> bool {
+    flag_is(validity, 2, 0, true)
+        && flag_is(validity, 2, 1, false)
+        && flag_is(None, 2, 1, true)
+        && check_flags(validity, 3).err() == Some(Cause::ValidityLength)
 }
 
-fn copy_is(validity: Option<&MutableBitmap>, wanted: Option<&[bool]>) -> Result<bool, PolarsError> {
+pub fn flags_are_read(alloc: Global) -> Result<bool, PolarsError> {
+    Ok(two_are_read(pushed(alloc, &[true, false])?.as_ref()))
+}
+
+fn copy_is(validity: Option<&MutableBitmap>, wanted: Flags<'_>) -> Result<bool, PolarsError> {
     Ok(grown_flags_are(clone_flags(validity)?.as_ref(), wanted))
 }
 
 pub fn flags_are_copied(alloc: Global) -> Result<bool, PolarsError> {
-    let validity = pushed(alloc, &[true, false])?;
-    Ok(copy_is(validity.as_ref(), Some(&[true, false]))? && copy_is(None, None)?)
+    copy_is(
+        pushed(alloc, &[true, false])?.as_ref(),
+        Some(&[true, false]),
+    )
+}
+
+pub fn none_is_copied() -> Result<bool, PolarsError> {
+    copy_is(None, None)
 }
 
 // The first flags, frozen, and changed into ones that grow.
@@ -135,7 +160,7 @@ pub fn frozen_are(
     alloc: Global,
     flags: &[bool],
     count: usize,
-    wanted: Option<&[bool]>,
+    wanted: Flags<'_>,
 ) -> Result<bool, PolarsError> {
     let mut validity = pushed(alloc, flags)?;
     truncate_flags(&mut validity, count);
@@ -153,11 +178,7 @@ fn without_nulls(bits: MutableBitmap) -> MutableBitmap {
     bits
 }
 
-pub fn changed_are(
-    alloc: Global,
-    flags: &[bool],
-    wanted: Option<&[bool]>,
-) -> Result<bool, PolarsError> {
+pub fn changed_are(alloc: Global, flags: &[bool], wanted: Flags<'_>) -> Result<bool, PolarsError> {
     let mut validity = pushed(alloc, flags)?;
     apply_flags(&mut validity, without_nulls);
     Ok(grown_flags_are(validity.as_ref(), wanted))
@@ -175,49 +196,25 @@ fn twice_are(bits: &mut MutableBitmap, other: &MutableBitmap, wanted: &[bool]) -
     joined(bits, other) && bits.try_extend_from_self(other).is_ok() && gives(bits.iter(), wanted)
 }
 
-pub fn bits_are_joined(
-    alloc: Global,
-    other: &MutableBitmap,
-    wanted: &[bool],
-) -> Result<bool, PolarsError> {
+fn bits_take(alloc: Global, other: &MutableBitmap) -> Result<bool, PolarsError> {
     let mut bits = MutableBitmap::from_len_set(alloc, 1)?;
-    Ok(bits.try_push(false).is_ok() && twice_are(&mut bits, other, wanted))
+    Ok(
+        bits.try_push(false).is_ok()
+            && twice_are(&mut bits, other, &[true, false, true, true, true, true]),
+    )
+}
+
+pub fn bits_are_joined(alloc: Global) -> Result<bool, PolarsError> {
+    bits_take(alloc, &MutableBitmap::from_len_set(alloc, 2)?)
+}
+
+fn three_are_cut(bits: &mut MutableBitmap) -> bool {
+    let is_added = bits.try_extend([true, false, true]).is_ok();
+    bits.truncate(2);
+    is_added
 }
 
 pub fn bits_are_cut(alloc: Global) -> Result<bool, PolarsError> {
     let mut bits = MutableBitmap::with_capacity(alloc, 3)?;
-    bits.try_extend([true, false, true])?;
-    bits.truncate(2);
-    Ok(bits.capacity() >= 3 && gives(bits.iter(), &[true, false]))
-}
-
-// ---- builders
-
-fn null_is_added<M: MutableArray>(builder: &mut M) -> bool {
-    builder.reserve_slots(1).is_ok() && builder.push_null().is_ok()
-}
-
-fn slots_are<M: MutableArray>(builder: &M, count: usize, flags: Option<&[bool]>) -> bool {
-    builder.len() == count
-        && builder.is_empty() == (count == 0)
-        && grown_flags_are(builder.validity(), flags)
-}
-
-pub fn builder_is_empty(alloc: Global) -> bool {
-    let numbers = Numbers::new(alloc);
-    slots_are(&numbers, 0, None) && numbers.dtype() == ArrowDataType::UInt8
-}
-
-pub fn builder_takes_a_null(alloc: Global) -> Result<bool, PolarsError> {
-    let mut numbers = Numbers::new(alloc);
-    numbers.try_extend([7, 8])?;
-    numbers.shrink_to_fit();
-    Ok(
-        slots_are(&numbers, 2, None)
-            && null_is_added(&mut numbers)
-            && slots_are(&numbers, 3, Some(&[true, true, false]))
-            && numbers.try_push(9).is_ok()
-            && slots_are(&numbers, 4, Some(&[true, true, false, true]))
-            && numbers.are(&[7, 8, 0, 9]),
-    )
+    Ok(three_are_cut(&mut bits) && bits.capacity() >= 3 && gives(bits.iter(), &[true, false]))
 }

@@ -59,9 +59,12 @@ fn flag_is(validity: &Bitmap, i: usize, wanted: bool) -> bool {
     i < validity.len() && is_valid_at(Some(validity), i) == wanted
 }
 
+fn bits_are_read(validity: &Bitmap) -> bool {
+    flag_is(validity, 0, true) && flag_is(validity, 1, false) && flag_is(validity, 4, false)
+}
+
 pub fn flags_are_read(alloc: Global) -> Result<bool, PolarsError> {
-    let validity = bits(alloc)?;
-    Ok(flag_is(&validity, 0, true) && flag_is(&validity, 1, false) && flag_is(&validity, 4, false))
+    Ok(bits_are_read(&bits(alloc)?))
 }
 
 fn share_is(
@@ -76,8 +79,11 @@ fn share_is(
 }
 
 pub fn validity_is_shared(alloc: Global) -> Result<bool, PolarsError> {
-    let validity = bits(alloc)?;
-    share_is(alloc, Some(&validity), &[true, false, true, true, false])
+    share_is(
+        alloc,
+        Some(&bits(alloc)?),
+        &[true, false, true, true, false],
+    )
 }
 
 pub fn none_is_shared(alloc: Global) -> Result<bool, PolarsError> {

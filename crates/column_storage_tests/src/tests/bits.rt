@@ -1,31 +1,35 @@
+use crate::cases::flags;
 use crate::checks::bits::{
-    an_unset_bit_is_a_validity, bits_are_added, bits_are_frozen, bits_are_taken,
-    bits_stay_where_room_goes, four_are_cut, four_are_read, operations_leave, room_takes_bits,
-    set_bits_are, set_bits_are_no_validity, set_bits_split, shared_bits_are_changed,
-    slices_share_four, unset_bits_are,
+    Call, an_unset_bit_is_a_validity, bits_are_added, bits_are_frozen, bits_are_taken,
+    bits_stay_where_room_goes, four_are_read, four_give, four_split, four_stay, operations_leave,
+    own_bits_are_changed, room_takes_bits, set_bits_are, set_bits_are_no_validity,
+    shared_bits_are_changed, unset_bits_are,
 };
-use crate::checks::counts::{chain_is_counted, split_is_counted};
 use column_storage::BitOperation;
 use std::test::Fail;
 
+const PARTS: [(Call, usize, usize, &[bool]); 8] = [
+    (Call::Sliced, 0, 4, &[true, false, true, true]),
+    (Call::Sliced, 1, 3, &[false, true, true]),
+    (Call::SlicedUnchecked, 2, 2, &[true, true]),
+    (Call::SlicedUnchecked, 1, 1, &[false]),
+    (Call::Slice, 0, 2, &[true, false]),
+    (Call::Slice, 4, 0, &[]),
+    (Call::SliceUnchecked, 1, 2, &[false, true]),
+    (Call::SliceUnchecked, 0, 0, &[]),
+];
+
 #[test]
 fn slices_are_sublists(rt: HostRuntime) -> Result<(), Fail> {
-    let table: [(usize, usize, &[bool]); 6] = [
-        (0, 4, &[true, false, true, true]),
-        (1, 3, &[false, true, true]),
-        (2, 2, &[true, true]),
-        (0, 2, &[true, false]),
-        (1, 1, &[false]),
-        (4, 0, &[]),
-    ];
-    for (from, length, wanted) in table {
+    for (call, from, count, wanted) in PARTS {
         assert!(rt;
-            four_are_cut(rt.alloc(), from, length, wanted)?,
-            "{from} {length}"
+            four_give(rt.alloc(), call, from, count, wanted)?,
+            "{from} {count}"
         );
     }
-    assert!(rt; four_are_read(rt.alloc())?);
-    assert!(rt; slices_share_four(rt.alloc())?);
+    assert!(rt; four_are_read(&flags(rt.alloc())?));
+    assert!(rt; four_stay(rt.alloc())?);
+    assert!(rt; four_split(rt.alloc())?);
     Ok(())
 }
 
@@ -33,14 +37,14 @@ fn slices_are_sublists(rt: HostRuntime) -> Result<(), Fail> {
 fn bits_have_one_value(rt: HostRuntime) -> Result<(), Fail> {
     assert!(rt; unset_bits_are(rt.alloc())?);
     assert!(rt; set_bits_are(rt.alloc())?);
-    assert!(rt; set_bits_split(rt.alloc())?);
     assert!(rt; shared_bits_are_changed(rt.alloc())?);
+    assert!(rt; own_bits_are_changed(rt.alloc())?);
     Ok(())
 }
 
 #[test]
 fn bits_are_added_and_taken(rt: HostRuntime) -> Result<(), Fail> {
-    assert!(rt; bits_are_added(rt.alloc())?);
+    assert!(rt; bits_are_added(rt.alloc()));
     assert!(rt; bits_are_taken(rt.alloc())?);
     assert!(rt; bits_stay_where_room_goes(rt.alloc())?);
     assert!(rt; room_takes_bits(rt.alloc())?);
@@ -55,67 +59,34 @@ fn a_validity_without_nulls_is_none(rt: HostRuntime) -> Result<(), Fail> {
     Ok(())
 }
 
+const POP: BitOperation = BitOperation::Pop;
+
+const SET: BitOperation = BitOperation::Push(true);
+
+const UNSET: BitOperation = BitOperation::Push(false);
+
+const OPERATIONS: [(&[BitOperation], &[bool]); 6] = [
+    (&[], &[]),
+    (&[POP], &[]),
+    (&[SET], &[true]),
+    (&[SET, UNSET, POP], &[true]),
+    (
+        &[BitOperation::ExtendConstant(3, false), POP, SET],
+        &[false, false, true],
+    ),
+    (
+        &[BitOperation::ExtendConstant(2, true), POP, POP, POP, UNSET],
+        &[false],
+    ),
+];
+
 #[test]
 fn operations_leave_their_list(rt: HostRuntime) -> Result<(), Fail> {
-    let pop = BitOperation::Pop;
-    let table: [(&[BitOperation], &[bool]); 6] = [
-        (&[], &[]),
-        (&[pop], &[]),
-        (&[BitOperation::Push(true)], &[true]),
-        (
-            &[BitOperation::Push(true), BitOperation::Push(false), pop],
-            &[true],
-        ),
-        (
-            &[
-                BitOperation::ExtendConstant(3, false),
-                pop,
-                BitOperation::Push(true),
-            ],
-            &[false, false, true],
-        ),
-        (
-            &[
-                BitOperation::ExtendConstant(2, true),
-                pop,
-                pop,
-                pop,
-                BitOperation::Push(false),
-            ],
-            &[false],
-        ),
-    ];
-    for (operations, wanted) in table {
+    for (operations, wanted) in OPERATIONS {
         assert!(rt;
             operations_leave(rt.alloc(), operations, wanted)?,
             "{operations:?}"
         );
-    }
-    Ok(())
-}
-
-#[test]
-fn counts_follow_chains_of_slices(rt: HostRuntime) -> Result<(), Fail> {
-    for period in [0, 1, 2, 7, 90] {
-        for (front, back) in [(1, 0), (0, 1), (2, 1), (40, 3), (0, 70), (60, 60), (0, 0)] {
-            assert!(rt;
-                chain_is_counted(rt.alloc(), period, front, back)?,
-                "{period} {front} {back}"
-            );
-        }
-    }
-    Ok(())
-}
-
-#[test]
-fn counts_follow_splits_and_shares(rt: HostRuntime) -> Result<(), Fail> {
-    for period in [0, 1, 3] {
-        for place in 0..10 {
-            assert!(rt;
-                split_is_counted(rt.alloc(), period, place)?,
-                "{period} {place}"
-            );
-        }
     }
     Ok(())
 }

@@ -3,28 +3,25 @@ use crate::checks::validity::{
     nulls_are_counted, part_has, set_part_has_none, validity_is_shared,
 };
 use column_base::Cause;
-use column_storage::{
-    flags_of_part, no_fault_is_as_many, nulls_of_slots, rows_of_slots, same_flags_same_slots,
-    slot_is_flag_and_value, slot_of_slice, slots_are_values, slots_of_slice, slots_of_split,
-    slots_of_two_slices,
-};
 use std::test::Fail;
+
+// a part of five bits, and how many of its slots are null where a validity is kept
+const PARTS: [(usize, usize, Option<usize>); 10] = [
+    (0, 5, Some(2)),
+    (1, 3, Some(1)),
+    (0, 2, Some(1)),
+    (3, 2, Some(1)),
+    (1, 4, Some(2)),
+    (0, 1, None),
+    (2, 2, None),
+    (4, 0, None),
+    (0, 0, None),
+    (5, 0, None),
+];
 
 #[test]
 fn parts_have_their_nulls(rt: HostRuntime) -> Result<(), Fail> {
-    let table = [
-        (0, 5, Some(2)),
-        (1, 3, Some(1)),
-        (0, 2, Some(1)),
-        (3, 2, Some(1)),
-        (1, 4, Some(2)),
-        (0, 1, None),
-        (2, 2, None),
-        (4, 0, None),
-        (0, 0, None),
-        (5, 0, None),
-    ];
-    for (from, length, nulls) in table {
+    for (from, length, nulls) in PARTS {
         assert!(rt;
             part_has(rt.alloc(), from, length, nulls)?,
             "{from} {length}"
@@ -33,12 +30,6 @@ fn parts_have_their_nulls(rt: HostRuntime) -> Result<(), Fail> {
     assert!(rt; set_part_has_none(rt.alloc())?);
     assert!(rt; none_has_no_part());
     assert!(rt; nulls_are_counted(rt.alloc())?);
-    flags_of_part();
-    slots_of_slice();
-    slot_of_slice();
-    slots_of_two_slices();
-    slots_of_split();
-    nulls_of_slots();
     Ok(())
 }
 
@@ -49,11 +40,6 @@ fn a_validity_has_a_flag_for_each_slot(rt: HostRuntime) -> Result<(), Fail> {
     assert!(rt; length_is_checked(rt.alloc(), 4, Some(Cause::ValidityLength))?);
     assert!(rt; length_is_checked(rt.alloc(), 6, Some(Cause::ValidityLength))?);
     assert!(rt; flags_are_read(rt.alloc())?);
-    no_fault_is_as_many();
-    slots_are_values();
-    slot_is_flag_and_value();
-    same_flags_same_slots();
-    rows_of_slots();
     Ok(())
 }
 

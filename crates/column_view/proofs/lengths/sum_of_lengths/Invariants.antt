@@ -1,7 +1,7 @@
 use Rattle.std.proofs.Common.{◌≡◌, ℕ, ◌<◌, ◌≤◌, ◌*◌, ◌^◌, List, take, sum_by}
 use Rattle.std.specs.Prelude.{slice_index_or}
 use Rattle.column_view.specs.Views.{view_length}
-use Rattle.column_blocks.proofs.views.sum_of_lengths.Given as goal
+use Rattle.column_view.proofs.lengths.sum_of_lengths.Given as goal
 
 -- each length is below 2 ^ 32
 abbrev pub invariant-loop-view : goal.invariant-loop-view
