@@ -1,39 +1,20 @@
 -- Slots of text: end to end they are the bytes from the first offset up to the last.
 use Rattle.std.proofs.Common.{◌≡◌, ℕ, zero, suc, ◌+◌, ◌-◌, ◌<◌, ◌≤◌, ℤ, pos, negsuc, Bool, true, false, List, [], ◌∷◌, ◌++◌, length, take, drop, refl, sym, ◌∙◌, ap, subst, arith}
-use Rattle.std.specs.Prelude.{◌≤ℤ◌, ◌↔◌, not, nat_lt, slice_range, Option, Some, None, int_lt}
-use Rattle.std.specs.List.{concat}
+use Rattle.std.specs.Prelude.{◌≤ℤ◌, ◌↔◌, not, ◌&&◌, ◌||◌, nat_lt, slice_index, slice_range, Option, Some, None, int_lt}
+use Rattle.std.specs.List.{concat, list_any}
 use Rattle.std.proofs.lemmas.Int.{ints}
 use Rattle.std.proofs.lemmas.Bool.{and_parts}
 use Rattle.std.proofs.lemmas.Bool.Decides.{nat_tests}
-use Rattle.std.proofs.lemmas.List.{drop-drop}
+use Rattle.std.proofs.lemmas.List.{drop-drop, length-append, append-nil, get_or_past}
+use Rattle.std.proofs.Math.Seq.{take-append_seam, drop-append_seam, get_or-append_seam}
 use Rattle.column_base.specs.declared.errors.Cause.{Cause}
 use Rattle.column_base.specs.declared.errors.Cause.TheVariants.{OffsetsExceedValues, InvalidUtf8, CharBoundary}
 use Rattle.column_base.specs.Answers.{◌or_else◌, cause_if}
-use Rattle.column_base.specs.Utf8.{is_well_formed_utf8}
-use Rattle.column_base.proofs.Utf8Lemmas.{well_formed-append}
+use Rattle.column_base.specs.Utf8.{is_well_formed_utf8, IsWellFormedUtf8, is_continuation_byte}
+use Rattle.column_base.proofs.Utf8Lemmas.{well_formed-append, well_formed-cut}
 use Rattle.column_offset.specs.Offsets.{nat_of, offset_at, last_of, AreSoundOffsets, bounds_fault}
-use Rattle.column_offset.specs.Text.{pieces, are_well_formed_utf8, texts_fault, cut_fault}
-use Rattle.column_offset.proofs.OffsetsLemmas.{nat_of_order, places_in_order, from_zero}
-
--- ---- a loop over slots
-
-pub pieces-step : (offsets : List ℤ) (values : List ℕ) (i : ℕ) → i + 1 < length offsets
-    → pieces (drop i offsets) values ≡ slice_range values (nat_of (offset_at offsets i)) (nat_of (offset_at offsets (i + 1))) ∷ pieces (drop (i + 1) offsets) values
-pieces-step [] values i within = absurd (omega arith)
-pieces-step (a ∷ []) values i within = absurd (omega arith)
-pieces-step (a ∷ b ∷ offsets) values zero within = refl
-pieces-step (a ∷ b ∷ offsets) values (suc i) within =
-    let e : suc i + 1 ≡ suc (i + 1) = omega arith in
-    rw e (pieces-step (b ∷ offsets) values i (omega arith))
-
-pub pieces-end : (offsets : List ℤ) (values : List ℕ) (i : ℕ) → length offsets ≤ i + 1 → pieces (drop i offsets) values ≡ []
-pieces-end [] values zero within = refl
-pieces-end [] values (suc i) within = refl
-pieces-end (a ∷ []) values zero within = refl
-pieces-end (a ∷ []) values (suc zero) within = refl
-pieces-end (a ∷ []) values (suc (suc i)) within = refl
-pieces-end (a ∷ b ∷ offsets) values zero within = absurd (omega arith)
-pieces-end (a ∷ b ∷ offsets) values (suc i) within = pieces-end (b ∷ offsets) values i (omega arith)
+use Rattle.column_offset.specs.Text.{pieces, are_well_formed_utf8, texts_fault, cut_fault, cuts_sequence}
+use Rattle.column_offset.proofs.OffsetsLemmas.{nat_of_order, places_in_order, from_zero, read_from_zero}
 
 -- ---- the whole from its parts
 
@@ -85,6 +66,84 @@ concat_well_formed [] all = refl
 concat_well_formed (text ∷ texts) all =
     let parts = and_parts (is_well_formed_utf8 text) (are_well_formed_utf8 texts) all in
     well_formed-append text (concat texts) parts.0 (concat_well_formed texts parts.1)
+
+-- ---- slots by their cuts
+
+none_at : (n i : ℕ) → slice_index (take n []) i ≡ 0
+none_at zero i = refl
+none_at (suc n) i = refl
+
+-- the first byte from a place on, of the bytes up to an end
+part_head : (values : List ℕ) (place end : ℕ) → slice_index (slice_range values place end) 0 ≡ slice_index (take end values) place
+part_head values zero end = let e : end - 0 ≡ end = omega arith in rw e refl
+part_head [] (suc place) end = none_at (end - suc place) 0 ∙ sym (none_at end (suc place))
+part_head (v ∷ vs) (suc place) zero = let e : 0 - suc place ≡ 0 = omega arith in rw e refl
+part_head (v ∷ vs) (suc place) (suc end) = let e : suc end - suc place ≡ end - place = omega arith in rw e (part_head vs place end)
+
+cut_parts : (xs ys : List ℕ) (y : ℕ) → IsWellFormedUtf8 (xs ++ y ∷ ys) → (IsWellFormedUtf8 xs × IsWellFormedUtf8 (y ∷ ys)) ↔ (is_continuation_byte y ≡ false)
+cut_parts xs ys y whole =
+    let count = length-append xs (y ∷ ys) in
+    let law = well_formed-cut (xs ++ y ∷ ys) (length xs) whole (omega arith) in
+    rw (take-append_seam xs (y ∷ ys), drop-append_seam xs (y ∷ ys), get_or-append_seam xs y ys 0) at law
+
+-- a text may be cut where the rest begins a sequence, and nowhere else
+cut_holds : (xs ys : List ℕ) → IsWellFormedUtf8 (xs ++ ys) → is_continuation_byte (slice_index ys 0) ≡ false → IsWellFormedUtf8 xs × IsWellFormedUtf8 ys
+cut_holds xs [] whole begins = (subst (λ bytes. IsWellFormedUtf8 bytes) (append-nil xs) whole, refl)
+cut_holds xs (y ∷ ys) whole begins = (cut_parts xs ys y whole).1 begins
+
+cut_tells : (xs ys : List ℕ) → IsWellFormedUtf8 (xs ++ ys) → IsWellFormedUtf8 xs → IsWellFormedUtf8 ys → is_continuation_byte (slice_index ys 0) ≡ false
+cut_tells xs [] whole p q = refl
+cut_tells xs (y ∷ ys) whole p q = (cut_parts xs ys y whole).0 (p, q)
+
+unless_true : (s : Bool) → (s ≡ true → ⊥) → s ≡ false
+unless_true false h = refl
+unless_true true h = absurd (h refl)
+
+not_both : (b : Bool) → true ≡ b → b ≡ false → ⊥
+not_both b t f = cc
+
+-- one slot more before texts that are decided
+slot_step : (text : List ℕ) (texts : List (List ℕ)) (cut more : Bool) → cut ≡ is_continuation_byte (slice_index (concat texts) 0) → IsWellFormedUtf8 (text ++ concat texts)
+    → (IsWellFormedUtf8 (concat texts) → are_well_formed_utf8 texts ≡ not more) → is_well_formed_utf8 text && are_well_formed_utf8 texts ≡ not (cut || more)
+slot_step text texts true more e whole next = unless_true _ (λ both.
+    let parts = and_parts (is_well_formed_utf8 text) (are_well_formed_utf8 texts) both in
+    not_both _ e (cut_tells text (concat texts) whole parts.0 (concat_well_formed texts parts.1)))
+slot_step text texts false more e whole next =
+    let parts = cut_holds text (concat texts) whole (sym e) in
+    rw parts.0 (next parts.1)
+
+-- the byte at the first offset is the first of the slots, end to end
+first_byte : (a : ℤ) (offsets : List ℤ) (values : List ℕ) (end : ℕ) → end ≡ nat_of (last_of (a ∷ offsets)) → AreSoundOffsets (a ∷ offsets)
+    → cuts_sequence (take end values) a ≡ is_continuation_byte (slice_index (concat (pieces (a ∷ offsets) values)) 0)
+first_byte a offsets values end last sound =
+    let covered = covered_is (a ∷ offsets) values sound in
+    ap is_continuation_byte
+    (ap (λ n. slice_index (take n values) (nat_of a)) last
+    ∙ sym (part_head values (nat_of a) (nat_of (last_of (a ∷ offsets))))
+    ∙ ap (λ bytes. slice_index bytes 0) covered)
+
+slots_by_cuts : (offsets : List ℤ) (values : List ℕ) (end : ℕ) → end ≡ nat_of (last_of offsets) → AreSoundOffsets offsets → IsWellFormedUtf8 (concat (pieces offsets values))
+    → are_well_formed_utf8 (pieces offsets values) ≡ not (list_any (cuts_sequence (take end values)) (drop 1 offsets))
+slots_by_cuts [] values end last sound whole = refl
+slots_by_cuts (a ∷ []) values end last sound whole = refl
+slots_by_cuts (a ∷ b ∷ offsets) values end last sound whole =
+    let tail = sound_tail a b offsets sound in
+    let last' : end ≡ nat_of (last_of (b ∷ offsets)) = last ∙ ap nat_of (last_of-cons a b offsets) in
+    slot_step (slice_range values (nat_of a) (nat_of b)) (pieces (b ∷ offsets) values) _ _ (first_byte b offsets values end last' tail) whole (slots_by_cuts (b ∷ offsets) values end last' tail)
+
+first_begins : (offsets : List ℤ) (values : List ℕ) (end : ℕ) → end ≡ nat_of (last_of offsets) → AreSoundOffsets offsets → IsWellFormedUtf8 (concat (pieces offsets values))
+    → list_any (cuts_sequence (take end values)) offsets ≡ list_any (cuts_sequence (take end values)) (drop 1 offsets)
+first_begins [] values end last sound whole = refl
+first_begins (a ∷ offsets) values end last sound whole =
+    let begins : cuts_sequence (take end values) a ≡ false = first_byte a offsets values end last sound ∙ cut_tells [] (concat (pieces (a ∷ offsets) values)) whole refl whole in
+    rw begins refl
+
+-- of bytes that are a text the slots are, where no offset cuts a sequence
+pub slots_are : (offsets : List ℤ) (values : List ℕ) (end : ℕ) → pos end ≡ last_of offsets → AreSoundOffsets offsets → is_well_formed_utf8 (concat (pieces offsets values)) ≡ true
+    → are_well_formed_utf8 (pieces offsets values) ≡ not (list_any (cuts_sequence (take end values)) offsets)
+slots_are offsets values end last sound whole =
+    let e : end ≡ nat_of (last_of offsets) = ap nat_of last in
+    slots_by_cuts offsets values end e sound whole ∙ ap not (sym (first_begins offsets values end e sound whole))
 
 -- ---- the first fault
 
@@ -142,4 +201,6 @@ slots_decide offsets values sound within =
       λ (all : are_well_formed_utf8 (pieces offsets values) ≡ true). text_sound offsets values inside all,
     )
 
-pub ruleset texts = (within_values, text_sound, text_bounds, text_invalid, text_boundary, pieces-step, pieces-end)
+pub ruleset texts = (within_values, text_sound, text_bounds, text_invalid, text_boundary)
+
+pub ruleset cuts = (read_from_zero, get_or_past)

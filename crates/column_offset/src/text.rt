@@ -1,34 +1,34 @@
 //! The check of text that is cut into slots.
 
-ghost use Rattle.std.specs.Prelude.{◌≡◌, ◌↔◌, ℕ, ℤ, ◌≤◌, ◌<◌, true, List, None, length, map, slice_range, ⊤};
-ghost use Rattle.std.specs.List.{concat};
+ghost use Rattle.std.specs.Prelude.{◌≡◌, ◌↔◌, ℕ, ℤ, ◌≤◌, ◌<◌, true, not, List, None, length, map, slice_range, ⊤};
+ghost use Rattle.std.specs.List.{concat, list_any};
 ghost use Rattle.column_base.specs.Answers.{Gives, GivesCause};
+ghost use Rattle.column_base.specs.Utf8.{is_well_formed_utf8};
 ghost use Rattle.column_offset.specs.Offsets.{nat_of, offset_at, last_of, AreSoundOffsets};
-ghost use Rattle.column_offset.specs.Text.{pieces, are_well_formed_utf8, cut_fault};
+ghost use Rattle.column_offset.specs.Text.{pieces, are_well_formed_utf8, cut_fault, cuts_sequence};
 
-use crate::checks::{check_offsets_bounds, place};
+use crate::checks::{check_offsets_bounds, last_place, place};
 use column_base::{Cause, Offset, PolarsError, is_utf8};
 
 /// Whether each slot of sound offsets is UTF-8 by itself.
 ///
-/// Bytes before the first offset and after the last are not looked at. One pass, with no memory, and one more where a
-/// slot is refused. `OffsetsExceedValues` where the last offset is greater than the number of value bytes,
-/// `InvalidUtf8` where the bytes from the first offset up to the last are not UTF-8, `CharBoundary` where they are and
-/// some slot is not. Unicode, table 3-7.
+/// Bytes before the first offset and after the last are not looked at. One pass over the bytes between, and one over the
+/// offsets where they are UTF-8, with no memory. `OffsetsExceedValues` where the last offset is greater than the number
+/// of value bytes, `InvalidUtf8` where the bytes from the first offset up to the last are not UTF-8, `CharBoundary`
+/// where they are and some slot is not. Unicode, table 3-7.
 #[tactic(auto, using(crate::proofs::TextLemmas::texts))]
 pub fn check_utf8<O: Offset>(offsets: &[O], values: &[u8]) -> Result<(), Cause>
     requires { AreSoundOffsets (map O.int offsets.now) }
     ensures { GivesCause result (cut_fault (map O.int offsets.now) values.now) (λ _. ⊤) }
 {
     check_offsets_bounds(offsets, values.len())?;
-    if slots_are_utf8(offsets, values) {
-        return Ok(());
+    if !is_utf8(covered_bytes(offsets, values)) {
+        return Err(Cause::InvalidUtf8);
     }
-    if is_utf8(covered_bytes(offsets, values)) {
-        Err(Cause::CharBoundary)
-    } else {
-        Err(Cause::InvalidUtf8)
+    if any_slot_is_cut(offsets, values) {
+        return Err(Cause::CharBoundary);
     }
+    Ok(())
 }
 
 /// The same as [`check_utf8`], with the cause as an error.
@@ -52,19 +52,29 @@ pub fn slots_end_to_end()
         → concat (pieces offsets values) ≡ slice_range values (nat_of (offset_at offsets 0)) (nat_of (last_of offsets)) }
 {}
 
-/// Whether each slot is UTF-8. The offsets are sound, and within the values.
-#[tactic(auto, using(crate::proofs::TextLemmas::texts, crate::proofs::OffsetsLemmas::sound_offsets))]
-fn slots_are_utf8<O: Offset>(offsets: &[O], values: &[u8]) -> bool
+/// Whether some slot is not UTF-8, of sound offsets within the values, whose slots end to end are.
+#[tactic(auto, using(crate::proofs::TextLemmas::slots_are, crate::proofs::OffsetsLemmas::sound_offsets))]
+fn any_slot_is_cut<O: Offset>(offsets: &[O], values: &[u8]) -> bool
     requires sound { AreSoundOffsets (map O.int offsets.now) }
     requires within { nat_of (last_of (map O.int offsets.now)) ≤ length values.now }
-    ensures { result ≡ are_well_formed_utf8 (pieces (map O.int offsets.now) values.now) }
+    requires whole { is_well_formed_utf8 (concat (pieces (map O.int offsets.now) values.now)) ≡ true }
+    ensures { are_well_formed_utf8 (pieces (map O.int offsets.now) values.now) ≡ not result }
 {
-    for i in 0..offsets.len() - 1 {
-        if !is_utf8(bytes_between(offsets, values, i, i + 1)) {
-            return false;
+    any_cuts_sequence(offsets, &values[..last_place(offsets)])
+}
+
+/// Whether one of sound offsets stands at a byte which begins no sequence. At the end of the bytes none does.
+#[tactic(auto, using(crate::proofs::TextLemmas::cuts))]
+fn any_cuts_sequence<O: Offset>(offsets: &[O], bytes: &[u8]) -> bool
+    requires sound { AreSoundOffsets (map O.int offsets.now) }
+    ensures { result ≡ list_any (cuts_sequence bytes.now) (map O.int offsets.now) }
+{
+    for offset in offsets {
+        if let Some(0x80..=0xBF) = bytes.get(offset.to_usize()) {
+            return true;
         }
     }
-    true
+    false
 }
 
 /// The bytes of all slots, end to end. The offsets are sound, and within the values.

@@ -7,48 +7,50 @@ use std::test::Fail;
 
 // ---- raw numbers
 
+const NUMBERS: [(&[i64], Option<Cause>); 7] = [
+    (&[], Some(Cause::OffsetsEmpty)),
+    (&[-1, -2], Some(Cause::OffsetsNegative)),
+    (&[0, 3, 2], Some(Cause::OffsetsNotMonotone)),
+    (&[0, 2, -1], Some(Cause::OffsetsNotMonotone)),
+    (&[0], None),
+    (&[0, 2, 2, 5], None),
+    (&[5, 5, 9223372036854775807], None),
+];
+
 #[test]
 fn numbers_are_checked_in_order(rt: HostRuntime) -> Result<(), Fail> {
-    let table: [(&[i64], Option<Cause>); 7] = [
-        (&[], Some(Cause::OffsetsEmpty)),
-        (&[-1, -2], Some(Cause::OffsetsNegative)),
-        (&[0, 3, 2], Some(Cause::OffsetsNotMonotone)),
-        (&[0, 2, -1], Some(Cause::OffsetsNotMonotone)),
-        (&[0], None),
-        (&[0, 2, 2, 5], None),
-        (&[5, 5, 9223372036854775807], None),
-    ];
-    for (numbers, cause) in table {
+    for (numbers, cause) in NUMBERS {
         assert!(rt; raw::are_told(rt.alloc(), numbers, cause)?, "{numbers:?}");
     }
     Ok(())
 }
+
+const NARROW: [(&[i32], Option<Cause>); 5] = [
+    (&[], Some(Cause::OffsetsEmpty)),
+    (&[-1, -2], Some(Cause::OffsetsNegative)),
+    (&[0, 3, 2], Some(Cause::OffsetsNotMonotone)),
+    (&[0, 2, 5], None),
+    (&[0, 2147483647], None),
+];
 
 #[test]
 fn narrow_numbers_are_checked_in_order(rt: HostRuntime) -> Result<(), Fail> {
-    let table: [(&[i32], Option<Cause>); 5] = [
-        (&[], Some(Cause::OffsetsEmpty)),
-        (&[-1, -2], Some(Cause::OffsetsNegative)),
-        (&[0, 3, 2], Some(Cause::OffsetsNotMonotone)),
-        (&[0, 2, 5], None),
-        (&[0, 2147483647], None),
-    ];
-    for (numbers, cause) in table {
+    for (numbers, cause) in NARROW {
         assert!(rt; raw::are_told(rt.alloc(), numbers, cause)?, "{numbers:?}");
     }
     Ok(())
 }
 
+const BOUNDS: [(&[i32], usize, Option<Cause>); 4] = [
+    (&[0, 2, 5], 5, None),
+    (&[0, 2, 5], 4, Some(Cause::OffsetsExceedValues)),
+    (&[3], 3, None),
+    (&[3], 2, Some(Cause::OffsetsExceedValues)),
+];
+
 #[test]
 fn offsets_lie_within_their_values(rt: HostRuntime) -> Result<(), Fail> {
-    let past = Some(Cause::OffsetsExceedValues);
-    let table: [(&[i32], usize, Option<Cause>); 4] = [
-        (&[0, 2, 5], 5, None),
-        (&[0, 2, 5], 4, past),
-        (&[3], 3, None),
-        (&[3], 2, past),
-    ];
-    for (numbers, count, cause) in table {
+    for (numbers, count, cause) in BOUNDS {
         assert!(rt;
             raw::bound_is_told(rt.alloc(), numbers, count, cause)?,
             "{numbers:?}"
@@ -59,46 +61,50 @@ fn offsets_lie_within_their_values(rt: HostRuntime) -> Result<(), Fail> {
 
 // ---- texts
 
+const TEXT: [u8; 10] = [0x61, 0xC3, 0xA9, 0xE2, 0x82, 0xAC, 0xF0, 0x9F, 0x98, 0x80];
+
+const CUTS: [(i32, Option<Cause>); 11] = [
+    (0, None),
+    (1, None),
+    (2, Some(Cause::CharBoundary)),
+    (3, None),
+    (4, Some(Cause::CharBoundary)),
+    (5, Some(Cause::CharBoundary)),
+    (6, None),
+    (7, Some(Cause::CharBoundary)),
+    (8, Some(Cause::CharBoundary)),
+    (9, Some(Cause::CharBoundary)),
+    (10, None),
+];
+
 #[test]
 fn text_is_cut_between_characters(rt: HostRuntime) -> Result<(), Fail> {
-    let text = [0x61, 0xC3, 0xA9, 0xE2, 0x82, 0xAC, 0xF0, 0x9F, 0x98, 0x80];
-    let inside = Some(Cause::CharBoundary);
-    let table: [(i32, Option<Cause>); 11] = [
-        (0, None),
-        (1, None),
-        (2, inside),
-        (3, None),
-        (4, inside),
-        (5, inside),
-        (6, None),
-        (7, inside),
-        (8, inside),
-        (9, inside),
-        (10, None),
-    ];
-    for (place, cause) in table {
+    for (place, cause) in CUTS {
         assert!(rt;
-            raw::cut_is_told(rt.alloc(), &[0, place, 10], &text, cause)?,
+            raw::cut_is_told(rt.alloc(), &[0, place, 10], &TEXT, cause)?,
             "{place}"
         );
     }
     Ok(())
 }
 
+const TEXTS: [(&[i64], &[u8], Option<Cause>); 7] = [
+    (&[0, 2], &[0x61, 0xC3, 0xA9], Some(Cause::InvalidUtf8)),
+    (
+        &[0, 2, 4],
+        &[0x61, 0xC3, 0xA9],
+        Some(Cause::OffsetsExceedValues),
+    ),
+    (&[2, 3], &[0x61, 0xC3, 0xA9], Some(Cause::InvalidUtf8)),
+    (&[0, 1], &[0x61, 0xA9], None),
+    (&[0, 1, 1], &[0x61, 0x80, 0xBF], None),
+    (&[1], &[0x61, 0xA9], None),
+    (&[1, 2], &[0xA9, 0x61, 0xA9], None),
+];
+
 #[test]
 fn faults_of_text_come_in_order(rt: HostRuntime) -> Result<(), Fail> {
-    let invalid = Some(Cause::InvalidUtf8);
-    let past = Some(Cause::OffsetsExceedValues);
-    let table: [(&[i64], &[u8], Option<Cause>); 7] = [
-        (&[0, 2], &[0x61, 0xC3, 0xA9], invalid),
-        (&[0, 2, 4], &[0x61, 0xC3, 0xA9], past),
-        (&[2, 3], &[0x61, 0xC3, 0xA9], invalid),
-        (&[0, 1], &[0x61, 0xA9], None),
-        (&[0, 1, 1], &[0x61, 0x80, 0xBF], None),
-        (&[1], &[0x61, 0xA9], None),
-        (&[1, 2], &[0xA9, 0x61, 0xA9], None),
-    ];
-    for (numbers, values, cause) in table {
+    for (numbers, values, cause) in TEXTS {
         assert!(rt;
             raw::cut_is_told(rt.alloc(), numbers, values, cause)?,
             "{numbers:?}"
@@ -179,17 +185,17 @@ fn growing_offsets_are_made_and_read(rt: HostRuntime) -> Result<(), Fail> {
     Ok(())
 }
 
+const PUSHES: [(&[i32], usize, Option<Cause>, &[i32]); 5] = [
+    (&[0], 3, None, &[0, 3]),
+    (&[2147483646], 2, Some(Cause::Overflow), &[2147483646]),
+    (&[2147483646], 0, None, &[2147483646, 2147483646]),
+    (&[2147483646], 1, None, &[2147483646, 2147483647]),
+    (&[0], usize::MAX, Some(Cause::Overflow), &[0]),
+];
+
 #[test]
 fn a_push_adds_a_slot_or_changes_nothing(rt: HostRuntime) -> Result<(), Fail> {
-    let over = Some(Cause::Overflow);
-    let table: [(&[i32], usize, Option<Cause>, &[i32]); 5] = [
-        (&[0], 3, None, &[0, 3]),
-        (&[2147483646], 2, over, &[2147483646]),
-        (&[2147483646], 0, None, &[2147483646, 2147483646]),
-        (&[2147483646], 1, None, &[2147483646, 2147483647]),
-        (&[0], usize::MAX, over, &[0]),
-    ];
-    for (numbers, length, cause, left) in table {
+    for (numbers, length, cause, left) in PUSHES {
         assert!(rt;
             growing::push_gives(rt.alloc(), numbers, length, cause, left)?,
             "{numbers:?}"
@@ -198,17 +204,26 @@ fn a_push_adds_a_slot_or_changes_nothing(rt: HostRuntime) -> Result<(), Fail> {
     Ok(())
 }
 
+const WIDE_PUSHES: [(&[i64], usize, Option<Cause>, &[i64]); 4] = [
+    (&[0], 3, None, &[0, 3]),
+    (
+        &[9223372036854775806],
+        2,
+        Some(Cause::Overflow),
+        &[9223372036854775806],
+    ),
+    (
+        &[9223372036854775806],
+        1,
+        None,
+        &[9223372036854775806, 9223372036854775807],
+    ),
+    (&[0], usize::MAX, Some(Cause::Overflow), &[0]),
+];
+
 #[test]
 fn wide_offsets_end_at_their_type(rt: HostRuntime) -> Result<(), Fail> {
-    let over = Some(Cause::Overflow);
-    let last = 9223372036854775806;
-    let table: [(&[i64], usize, Option<Cause>, &[i64]); 4] = [
-        (&[0], 3, None, &[0, 3]),
-        (&[last], 2, over, &[last]),
-        (&[last], 1, None, &[last, 9223372036854775807]),
-        (&[0], usize::MAX, over, &[0]),
-    ];
-    for (numbers, length, cause, left) in table {
+    for (numbers, length, cause, left) in WIDE_PUSHES {
         assert!(rt;
             growing::push_gives(rt.alloc(), numbers, length, cause, left)?,
             "{numbers:?}"
@@ -250,15 +265,16 @@ fn shared_offsets_are_made_and_read(rt: HostRuntime) -> Result<(), Fail> {
     Ok(())
 }
 
+const PARTS: [(usize, usize, &[i32]); 4] = [
+    (0, 4, &[1, 3, 3, 7]),
+    (1, 2, &[3, 3]),
+    (3, 1, &[7]),
+    (2, 2, &[3, 7]),
+];
+
 #[test]
 fn parts_share_their_offsets(rt: HostRuntime) -> Result<(), Fail> {
-    let table: [(usize, usize, &[i32]); 4] = [
-        (0, 4, &[1, 3, 3, 7]),
-        (1, 2, &[3, 3]),
-        (3, 1, &[7]),
-        (2, 2, &[3, 7]),
-    ];
-    for (from, count, part) in table {
+    for (from, count, part) in PARTS {
         assert!(rt;
             shared::both_parts_are(rt.alloc(), from, count, part)?,
             "{from}"
@@ -267,14 +283,15 @@ fn parts_share_their_offsets(rt: HostRuntime) -> Result<(), Fail> {
     Ok(())
 }
 
+const SPLITS: [(usize, &[i32], &[i32]); 3] = [
+    (0, &[0], &[0, 2, 5]),
+    (1, &[0, 2], &[2, 5]),
+    (2, &[0, 2, 5], &[5]),
+];
+
 #[test]
 fn splits_repeat_the_middle_offset(rt: HostRuntime) -> Result<(), Fail> {
-    let table: [(usize, &[i32], &[i32]); 3] = [
-        (0, &[0], &[0, 2, 5]),
-        (1, &[0, 2], &[2, 5]),
-        (2, &[0, 2, 5], &[5]),
-    ];
-    for (place, front, back) in table {
+    for (place, front, back) in SPLITS {
         assert!(rt;
             shared::both_halves_are(rt.alloc(), place, front, back)?,
             "{place}"
