@@ -2,3 +2,10 @@ pub mod SlotsLemmas
 pub mod RowsLemmas
 pub mod UpdatesLemmas
 pub mod TextsLemmas
+pub mod BuildersLemmas
+pub mod GatheredLemmas
+pub mod ChangesLemmas
+pub mod SourceViewsLemmas
+pub mod LengthsLemmas
+pub mod OperationsLemmas
+pub mod ValuesLemmas

@@ -1,8 +1,7 @@
 -- Laws of slots behind views: the contents of a part are a part of the contents, and what follows of flags beside them.
-use Rattle.std.proofs.Common.{◌≡◌, ◌↔◌, ℕ, zero, suc, ◌+◌, ◌-◌, ◌<◌, ◌≤◌, Bool, true, false, not, List, [], ◌∷◌, ◌++◌, length, take, drop, replicate, get_or, Option, Some, None, refl, sym, ◌∙◌, ap, subst, arith, count_by}
+use Rattle.std.proofs.Common.{◌≡◌, ◌↔◌, ℕ, zero, suc, ◌+◌, ◌-◌, ◌<◌, ◌≤◌, Bool, true, false, not, List, [], ◌∷◌, ◌++◌, length, take, drop, replicate, get_or, Option, Some, None, refl, sym, ◌∙◌, ap, subst, arith, count_by, if◌then◌else◌}
 use Rattle.std.specs.List.{filter_map}
-use Rattle.std.proofs.lemmas.List.{length-map, length-replicate, map-append, get_or-map}
-use Rattle.std.proofs.lemmas.List.Sums.{sum_by_more}
+use Rattle.std.proofs.lemmas.List.{length-take, length-map, length-replicate, map-append, get_or-map}
 use Rattle.column_base.specs.Kinds.{Slot}
 use Rattle.column_base.specs.Lists.{sublist}
 use Rattle.column_base.specs.Slots.{slot_at, values_of, row_of, rows_of}
@@ -14,7 +13,7 @@ use Rattle.column_storage.specs.Validity.{AreFlagsOf, flags_fault, is_valid_at}
 use Rattle.column_storage.specs.declared.data_buffers.TheConstants.{MAX_BUFFERS}
 use Rattle.column_storage.proofs.FlagsLemmas as flags
 use Rattle.column_storage.proofs.SlotsLemmas as storage
-use Rattle.column_view.specs.Views.{view_content, inline_view}
+use Rattle.column_view.specs.Views.{view_length, view_index, view_start, is_long, buffer_at, inline_content, long_content, view_content, inline_view}
 use Rattle.column_view.specs.ViewFaults.{layout_fault, content_fault, view_fault, views_fault, contents_fault}
 use Rattle.column_view.proofs.FaultsLemmas.{says_inline, first_none, rest_none, none_both, held, texts_fault, strings_fault}
 use Rattle.column_binview.specs.Slots.{ViewLists, view_lists, view_count, contents, view_slots, view_array_fault, AreSoundViews, sliced_views, IsViewPart, AreSums}
@@ -55,7 +54,7 @@ pub view_count-sliced : (lists : ViewLists) (from n : ℕ) → from + n ≤ view
 unfolding sliced_views
 view_count-sliced lists from n within = length-sublist lists.views from n within
 
-views_fault-take : (text : Bool) (views buffers : List (List ℕ)) (n : ℕ) → views_fault text views buffers ≡ None → views_fault text (take n views) buffers ≡ None
+pub views_fault-take : (text : Bool) (views buffers : List (List ℕ)) (n : ℕ) → views_fault text views buffers ≡ None → views_fault text (take n views) buffers ≡ None
 views_fault-take text views buffers zero fine = refl
 views_fault-take text [] buffers (suc n) fine = refl
 views_fault-take text (view ∷ views) buffers (suc n) fine =
@@ -63,7 +62,7 @@ views_fault-take text (view ∷ views) buffers (suc n) fine =
     (first_none (view_fault text view buffers) (views_fault text views buffers) fine)
     (views_fault-take text views buffers n (rest_none (view_fault text view buffers) (views_fault text views buffers) fine))
 
-views_fault-drop : (text : Bool) (views buffers : List (List ℕ)) (n : ℕ) → views_fault text views buffers ≡ None → views_fault text (drop n views) buffers ≡ None
+pub views_fault-drop : (text : Bool) (views buffers : List (List ℕ)) (n : ℕ) → views_fault text views buffers ≡ None → views_fault text (drop n views) buffers ≡ None
 views_fault-drop text views buffers zero fine = fine
 views_fault-drop text [] buffers (suc n) fine = refl
 views_fault-drop text (view ∷ views) buffers (suc n) fine =
@@ -116,6 +115,15 @@ bytes_at lists i view at all within =
 
 pub held_at : (text : Bool) (lists : ViewLists) (i : ℕ) (view : List ℕ) → view ≡ get_or lists.views i view → AreSoundViews text lists → i < view_count lists → CanHold text (view_content view lists.buffers)
 held_at text lists i view at sound within = held text view lists.buffers (fine_at text lists i view at sound within)
+
+content_if : (long : Bool) (view : List ℕ) (buffers : List (List ℕ)) → length (if long then long_content view buffers else inline_content view) ≤ view_length view
+content_if true view buffers = let count = length-take (view_length view) (drop (view_start view) (buffer_at buffers (view_index view))) in omega arith
+content_if false view buffers = let count = length-take (view_length view) (drop 4 view) in omega arith
+
+-- no view says more bytes than it counts
+pub length-content : (view : List ℕ) (buffers : List (List ℕ)) → length (view_content view buffers) ≤ view_length view
+unfolding view_content
+length-content view buffers = content_if (is_long view) view buffers
 
 pub valid_at : (lists : ViewLists) (i : ℕ) → AreFlagsOf (view_count lists) lists.flags → i < view_count lists → (slot_at (view_slots lists) i).valid ≡ is_valid_at lists.flags i
 unfolding view_slots
@@ -213,7 +221,7 @@ no_contents_fault lists sound =
 
 -- ---- null slots without bytes
 
-zero_view : replicate 16 0 ≡ inline_view []
+pub zero_view : replicate 16 0 ≡ inline_view []
 unfolding inline_view
 zero_view = refl
 
@@ -240,7 +248,7 @@ pub ruleset nulls = (empty_is_sound, nulls_are_sound)
 
 pub ruleset slices = (AreSoundViews-sliced, part_is)
 
-pub ruleset places = (layout_at, bytes_at, held_at, valid_at)
+pub ruleset places = (layout_at, bytes_at, held_at, valid_at, length-content)
 
 pub ruleset counts = (length-view_slots, null_slots_are)
 
@@ -249,8 +257,6 @@ pub ruleset values = (length-view_slots, storage.length-values_of, storage.value
 pub ruleset fine = (sound_where_fine)
 
 pub ruleset texts = (texts_where_fine, strings_are_sound)
-
-pub ruleset sums = (sum_by_more)
 
 pub ruleset round = (no_contents_fault)
 

@@ -2,3 +2,8 @@ pub mod Slots
 pub mod Rows
 pub mod Iterators
 pub mod Updates
+pub mod Builders
+pub mod Gathered
+pub mod SourceViews
+pub mod Lengths
+pub mod Operations

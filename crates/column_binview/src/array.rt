@@ -14,7 +14,7 @@ use column_storage::{
     Bitmap, Buffer, DataBuffers, check_validity, is_valid_at, null_count, share_validity,
     slice_validity,
 };
-use column_view::{View, check_views};
+use column_view::{View, check_views, sum_of_lengths};
 use std::alloc::Global;
 use std::marker::{Model, PhantomData};
 
@@ -526,16 +526,4 @@ fn check_lists(
     check_views(views.as_slice(), buffers, is_text)?;
     check_validity(validity, views.len())?;
     Ok(())
-}
-
-// The lengths of all views together.
-#[tactic(auto, using(crate::proofs::SlotsLemmas::sums))]
-fn sum_of_lengths(views: &[View]) -> u128
-    ensures { result ≡ sum_by view_length views.now }
-{
-    let mut total = 0u128;
-    for view in views {
-        total += view.length() as u128;
-    }
-    total
 }

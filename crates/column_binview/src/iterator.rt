@@ -5,8 +5,10 @@ ghost use Rattle.std.specs.List.{filter_map};
 ghost use Rattle.column_base.specs.Slots.{values_of, row_of, rows_of};
 ghost use Rattle.column_storage.specs.Iterators.{rows_left, values_left, valid_values_left, value_slots_left};
 ghost use Rattle.column_binview.specs.Slots.{view_slots};
+ghost use Rattle.column_binview.specs.Builders.{lists_of};
 
 use crate::array::{BinaryViewArray, BinaryViewArrayGeneric, Utf8ViewArray};
+use crate::builder::{MutableBinaryViewArray, MutablePlBinary, MutablePlString};
 use column_base::{BinaryKind, Utf8Kind, ViewKind};
 use column_storage::{
     ArrayAccessor, ArrayValuesIter, BitmapIter, Buffer, NonNullValuesIter, Values, ZipValidity,
@@ -144,5 +146,75 @@ impl<'a> IntoIterator for &'a Utf8ViewArray {
 
     fn into_iter(self) -> ZipValidity<&'a str, BinaryViewValueIter<'a, Utf8Kind>, BitmapIter<'a>> {
         self.iter()
+    }
+}
+
+// ---- builders
+
+/// The value of each slot that is left of a builder, of null ones too.
+pub type MutableBinaryViewValueIter<'a, K> = ArrayValuesIter<'a, MutableBinaryViewArray<K>>;
+
+impl<K: ViewKind> Values for MutableBinaryViewArray<K> {
+    ghost use Rattle.column_base.specs.Slots.{values_of};
+    ghost use Rattle.column_binview.specs.Slots.{view_slots};
+    ghost use Rattle.column_binview.specs.Builders.{lists_of};
+
+    // seen as a list of bytes
+    type Shown = Buffer<u8>;
+
+    ghost items = { λ b. values_of (view_slots (lists_of b)) };
+}
+
+#[tactic(auto, using(crate::proofs::SlotsLemmas::values))]
+impl<'a> ArrayAccessor<'a> for MutablePlBinary {
+    type Item = &'a [u8];
+
+    ghost shown = { λ bytes. bytes.now };
+
+    fn value_unchecked(&'a self, index: usize) -> &'a [u8] {
+        self.known();
+        self.value(index)
+    }
+
+    fn len(&self) -> usize
+        ensures { result ≡ length (values_of (view_slots (lists_of self.now))) }
+    {
+        MutableBinaryViewArray::len(self)
+    }
+}
+
+#[tactic(auto, using(crate::proofs::SlotsLemmas::values))]
+impl<'a> ArrayAccessor<'a> for MutablePlString {
+    type Item = &'a str;
+
+    ghost shown = { λ text. text.now };
+
+    fn value_unchecked(&'a self, index: usize) -> &'a str {
+        self.known();
+        self.value(index)
+    }
+
+    fn len(&self) -> usize
+        ensures { result ≡ length (values_of (view_slots (lists_of self.now))) }
+    {
+        MutableBinaryViewArray::len(self)
+    }
+}
+
+impl MutableBinaryViewArray<BinaryKind> {
+    /// The bytes of each slot, first to last, from both ends; a null slot that was not pushed may have bytes too.
+    pub fn values_iter(&self) -> MutableBinaryViewValueIter<'_, BinaryKind>
+        ensures { values_left result ≡ values_of (view_slots (lists_of self.now)) }
+    {
+        ArrayValuesIter::new(self)
+    }
+}
+
+impl MutableBinaryViewArray<Utf8Kind> {
+    /// The text of each slot, first to last, from both ends; a null slot that was not pushed may have a text too.
+    pub fn values_iter(&self) -> MutableBinaryViewValueIter<'_, Utf8Kind>
+        ensures { values_left result ≡ values_of (view_slots (lists_of self.now)) }
+    {
+        ArrayValuesIter::new(self)
     }
 }

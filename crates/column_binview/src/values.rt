@@ -1,6 +1,6 @@
 //! The values of slots, by their place.
 
-ghost use Rattle.std.specs.Prelude.{◌≡◌, ◌<◌, option_map};
+ghost use Rattle.std.specs.Prelude.{◌≡◌, ◌^◌, ◌<◌, length, option_map};
 ghost use Rattle.column_base.specs.Slots.{slot_at, row_of};
 ghost use Rattle.column_base.specs.Utf8.{CanHold};
 ghost use Rattle.column_binview.specs.Slots.{view_slots, view_count};
@@ -14,10 +14,13 @@ impl<K: ViewKind> BinaryViewArrayGeneric<K> {
         requires { i < view_count self.now }
         ensures bytes { result.now ≡ (slot_at (view_slots self.now) i).bytes }
         ensures held { CanHold K.IS_UTF8 result.now }
+        ensures fits { length result.now < 2 ^ 32 }
     {
         self.known();
         let views = self.views().as_slice();
-        views[i].get_slice_unchecked(self.data_buffers())
+        let view = &views[i];
+        let _length = view.length();
+        view.get_slice_unchecked(self.data_buffers())
     }
 }
 

@@ -2,6 +2,12 @@
 #![tactic(auto)]
 
 #[cfg(test)]
+mod builder_cases;
+#[cfg(test)]
+mod builder_checks;
+#[cfg(test)]
+mod builder_tests;
+#[cfg(test)]
 mod cases;
 #[cfg(test)]
 mod checks;
