@@ -3,12 +3,13 @@ use Rattle.std.proofs.Common.{◌≡◌, ℕ, ◌+◌, ◌-◌, ◌≤◌, Bool,
 use Rattle.column_base.specs.Kinds.{ColumnKind}
 use Rattle.column_relayout.specs.declared.steps.Step.{Step}
 use Rattle.column_relayout.specs.declared.steps.Step.TheVariants.{Slice, Left, Right, ToUtf8, ToBinary, Append, Rebuild}
+use Rattle.column_binview.specs.Slots.{ViewLists, view_count, sliced_views}
 use Rattle.column_relayout.specs.Kinds.{is_text}
-use Rattle.column_relayout.specs.Columns.{RawLists, offset_column, view_column, column_kind, slots_of, count_of, parts_fault, AreSound, IsWithinType, part_of, retyped}
+use Rattle.column_relayout.specs.Columns.{RawLists, offset_column, view_column, fixed_column, number_column, column_kind, slots_of, count_of, parts_fault, AreSound, IsWithinType, part_of, retyped}
 use Rattle.column_relayout.specs.Plans.{step_fault, kind_after, is_light, IsLight, light_step}
 use Rattle.column_relayout.specs.Steps.{Relays}
 use Rattle.column_relayout.specs.Cuts.{span_after, as_read, cut_once}
-use Rattle.column_relayout.proofs.ColumnsLemmas.{sound_where_no_fault, count-slots, count-part, part-part, retyped-part, as_read-whole}
+use Rattle.column_relayout.proofs.ColumnsLemmas.{sound_offset_lists, flagged_where_no_fault, sound_where_no_fault, count-slots, count-part, part-part, retyped-part, as_read-views, as_read-whole}
 use Rattle.column_relayout.proofs.PlansLemmas.{light_laid}
 use Rattle.column_relayout.proofs.StepsLemmas.{within_range}
 
@@ -50,6 +51,8 @@ after_retyped : (start end : RawLists) (text : Bool) (kind : ColumnKind) (plan :
 unfolding IsCut
 after_retyped (offset_column large old lists) end text kind plan cut = cut
 after_retyped (view_column old lists) end text kind plan cut = cut
+after_retyped (fixed_column lists) end text kind plan cut = cut
+after_retyped (number_column array) end text kind plan cut = cut
 
 cut_after : (start middle end : RawLists) (step : Step) (plan : List Step) → AreSound start → is_light step ≡ true → step_fault (column_kind start) (slots_of start) step ≡ None → middle ≡ light_step start step → IsCut middle (column_kind middle) (0, count_of middle) plan end → IsCut start (column_kind middle) (span_after (0, count_of start) step) plan end
 unfolding step_fault light_step
@@ -86,6 +89,31 @@ cut_by start end (step ∷ plan) sound relays light =
     subst (λ (kind : ColumnKind). IsCut start kind (span_after (0, count_of start) step) plan end) steps.kind
     (cut_after start middle end step plan sound light.0 relays.0 (light_laid start middle step light.0 steps.laid) (cut_by middle end plan steps.well_formed.sound relays.1.2 light.1))
 
-pub light_cut : (start end : RawLists) (plan : List Step) → IsWithinType start → parts_fault start ≡ None → Relays start plan end → IsLight plan → as_read end ≡ as_read (cut_once start plan)
+-- a light step keeps the buffers, so those of its views were not too many before it
+within_before : (text : Bool) (lists : ViewLists) (step : Step) → is_light step ≡ true → IsWithinType (light_step (view_column text lists) step) → IsWithinType (view_column text lists)
+unfolding light_step sliced_views
+within_before text lists (Slice from n) light within = within
+within_before text lists (Left n) light within = within
+within_before text lists (Right n) light within = within
+within_before text lists ToUtf8 light within = within
+within_before text lists ToBinary light within = within
+within_before text lists (Append rows) light within = absurd (cc)
+within_before text lists (Rebuild next) light within = absurd (cc)
+
+views_cut : (text : Bool) (lists : ViewLists) (end : RawLists) (plan : List Step) → parts_fault (view_column text lists) ≡ None → Relays (view_column text lists) plan end → IsLight plan → as_read end ≡ as_read (cut_once (view_column text lists) plan)
 unfolding IsCut
-light_cut start end plan within none relays light = (cut_by start end plan (sound_where_no_fault start within none) relays light).1
+views_cut text lists end [] none relays light =
+    let start = view_column text lists in
+    ap as_read relays ∙ sym (ap as_read (retyped-part start 0 (view_count lists)) ∙ as_read-views text lists (flagged_where_no_fault text lists none))
+views_cut text lists end (step ∷ plan) none relays light =
+    let start = view_column text lists in
+    let after = subst IsWithinType (light_laid start relays.1.0 step light.0 relays.1.1.laid) relays.1.1.well_formed.within_type in
+    let sound = sound_where_no_fault start (within_before text lists step light.0 after) none in
+    (cut_by start end (step ∷ plan) sound relays light).1
+
+pub light_cut : (start end : RawLists) (plan : List Step) → parts_fault start ≡ None → Relays start plan end → IsLight plan → as_read end ≡ as_read (cut_once start plan)
+unfolding IsCut
+light_cut (offset_column large text lists) end plan none relays light = (cut_by (offset_column large text lists) end plan (sound_offset_lists large text lists none) relays light).1
+light_cut (view_column text lists) end plan none relays light = views_cut text lists end plan none relays light
+light_cut (fixed_column lists) end plan none relays light = (cut_by (fixed_column lists) end plan (sound_where_no_fault (fixed_column lists) tt none) relays light).1
+light_cut (number_column array) end plan none relays light = (cut_by (number_column array) end plan (sound_where_no_fault (number_column array) tt none) relays light).1

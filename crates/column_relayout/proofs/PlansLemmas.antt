@@ -13,7 +13,7 @@ use Rattle.column_relayout.specs.declared.columns.ColumnError.TheVariants as ref
 use Rattle.column_relayout.specs.declared.steps.Step.{Step}
 use Rattle.column_relayout.specs.declared.steps.Step.TheVariants.{Slice, Left, Right, ToUtf8, ToBinary, Append, Rebuild}
 use Rattle.column_relayout.specs.Kinds.{is_text, offset_kind}
-use Rattle.column_relayout.specs.Columns.{RawLists, offset_column, view_column, column_kind, slots_of, count_of, parts_fault, part_of, retyped, shared_bytes, IsWellFormed}
+use Rattle.column_relayout.specs.Columns.{RawLists, offset_column, view_column, fixed_column, number_column, column_kind, slots_of, count_of, parts_fault, part_of, retyped, shared_bytes, IsWellFormed}
 use Rattle.column_relayout.specs.Plans.{step_fault, kind_after, slots_after, leads, faults, at_fault, meaning_from, plan_meaning, is_light, IsLight, ReachesHeavy, light_step, light_lists}
 use Rattle.column_relayout.specs.Written.{written_lists}
 use Rattle.column_relayout.specs.Steps.{IsWritten, IsLaid, StepsTo, Relays}
@@ -41,10 +41,14 @@ shared-part : (column : RawLists) (from n : ℕ) → shared_bytes (part_of colum
 unfolding sliced_lists sliced_views
 shared-part (offset_column large text lists) from n = refl
 shared-part (view_column text lists) from n = refl
+shared-part (fixed_column lists) from n = refl
+shared-part (number_column array) from n = refl
 
 shared-retyped : (column : RawLists) (text : Bool) → shared_bytes (retyped text column) ≡ shared_bytes column
 shared-retyped (offset_column large old lists) text = refl
 shared-retyped (view_column old lists) text = refl
+shared-retyped (fixed_column lists) text = refl
+shared-retyped (number_column array) text = refl
 
 shared-step : (column : RawLists) (step : Step) → shared_bytes (light_step column step) ≡ shared_bytes column
 unfolding light_step
@@ -126,7 +130,7 @@ same_flags a b c d same = (
   sym (text_is a b) ∙ ap is_text same ∙ text_is c d,
 )
 
--- a kind with offsets is none with views
+-- what is written has offsets
 written_is : (new : RawLists) (large text : Bool) → column_kind new ≡ offset_kind large text → IsWritten new → new ≡ offset_column large text (written_lists (slots_of new))
 written_is (offset_column wide texts lists) large text kind written =
     let flags = same_flags wide texts large text kind in
@@ -134,6 +138,8 @@ written_is (offset_column wide texts lists) large text kind written =
     ∙ ap (λ (l : Bool). offset_column l texts (written_lists (offset_slots lists))) flags.0
     ∙ ap (λ (t : Bool). offset_column large t (written_lists (offset_slots lists))) flags.1
 written_is (view_column texts lists) large text kind written = absurd written
+written_is (fixed_column lists) large text kind written = absurd written
+written_is (number_column array) large text kind written = absurd written
 
 heavy_writes : (old new : RawLists) (step : Step) → is_light step ≡ false → IsLaid old step new → IsWritten new
 heavy_writes old new (Slice from n) heavy laid = absurd (cc)

@@ -1,5 +1,5 @@
 -- One step, over the lists of a column.
-use Rattle.std.proofs.Common.{◌≡◌, ℕ, ◌+◌, ◌-◌, ◌≤◌, Bool, true, false, not, nat_lt, List, ◌++◌, length, map, take, drop, Option, Some, None, Result, Err, refl, sym, ◌∙◌, ap, subst, arith}
+use Rattle.std.proofs.Common.{◌≡◌, ℕ, ◌+◌, ◌-◌, ◌≤◌, Bool, true, false, not, nat_lt, List, ◌++◌, length, map, take, drop, Option, Some, None, Err, refl, sym, ◌∙◌, ap, subst, arith}
 use Rattle.std.specs.Prelude.{◌&&◌, ◌||◌}
 use Rattle.std.proofs.Math.Seq.{take-length}
 use Rattle.std.proofs.lemmas.Bool.Decides.{nat_tests}
@@ -12,7 +12,6 @@ use Rattle.column_base.specs.Integers.{greatest_offset}
 use Rattle.column_base.specs.Kinds.{Slot, ColumnKind}
 use Rattle.column_base.specs.Lists.{sublist}
 use Rattle.column_base.specs.Slots.{values_of}
-use Rattle.column_base.specs.Answers.{cause_if}
 use Rattle.column_base.proofs.AnswersLemmas.{cause_none}
 use Rattle.column_offset.specs.Text.{are_well_formed_utf8, texts_fault}
 use Rattle.column_binary.specs.Rows.{slot_of}
@@ -24,14 +23,14 @@ use Rattle.column_storage.specs.Validity.{AreFlagsOf}
 use Rattle.column_view.specs.ViewFaults.{contents_fault}
 use Rattle.column_binview.specs.Slots.{ViewLists, view_count, view_slots}
 use Rattle.column_binview.proofs.TextsLemmas.{contents_fault-slots}
-use Rattle.column_relayout.specs.Kinds.{kind_of, is_text, is_binary, has_views, offset_kind, view_kind, greatest_of}
+use Rattle.column_relayout.specs.Kinds.{kind_of, is_text, is_binary, has_offsets, offset_kind, view_kind, greatest_of}
 use Rattle.column_relayout.specs.Columns.{RawLists, offset_column, view_column, column_kind, slots_of, count_of, part_of, IsWellFormed}
 use Rattle.column_relayout.specs.Plans.{range_fault, step_fault, slots_after, light_step}
 use Rattle.column_relayout.specs.Relayouts.{StepAnswers}
 use Rattle.column_relayout.specs.Steps.{StepsTo}
 use Rattle.column_relayout.specs.Written.{written_slots, given_rows, room_fault, written_lists}
 use Rattle.column_relayout.proofs.WrittenLemmas.{written_mean}
-use Rattle.column_relayout.proofs.ColumnsLemmas.{text_is, binary_is, no_views, to_text_kind, to_binary_kind, kind-part}
+use Rattle.column_relayout.proofs.ColumnsLemmas.{text_is, binary_is, no_views, with_offsets, to_text_kind, to_binary_kind, kind-part}
 
 -- ---- parts of the slots
 
@@ -163,15 +162,15 @@ greatest_is true true = refl
 
 pub append_fault : (large : Bool) (slots : List Slot) (rows : List (Option (List ℕ))) (greatest : ℕ) → greatest_offset large ≡ greatest → step_fault (offset_kind large false) slots (Append rows) ≡ room_fault (Some greatest) (slots ++ map slot_of rows)
 unfolding step_fault
-append_fault large slots rows greatest is = rw (no_views large false, text_is large false, greatest_is large false, is) refl
+append_fault large slots rows greatest is = rw (with_offsets large false, text_is large false, greatest_is large false, is) refl
 
 pub append_texts_fault : (large : Bool) (slots : List Slot) (rows : List (Option (List ℕ))) (greatest : ℕ) → greatest_offset large ≡ greatest → are_well_formed_utf8 (given_rows rows) ≡ true → step_fault (offset_kind large true) slots (Append rows) ≡ room_fault (Some greatest) (slots ++ map slot_of rows)
 unfolding step_fault
-append_texts_fault large slots rows greatest is texts = rw (no_views large true, text_is large true, texts, greatest_is large true, is) refl
+append_texts_fault large slots rows greatest is texts = rw (with_offsets large true, text_is large true, texts, greatest_is large true, is) refl
 
 pub append_no_texts : (large : Bool) (slots : List Slot) (rows : List (Option (List ℕ))) → are_well_formed_utf8 (given_rows rows) ≡ false → step_fault (offset_kind large true) slots (Append rows) ≡ Some InvalidUtf8
 unfolding step_fault
-append_no_texts large slots rows texts = rw (no_views large true, text_is large true, texts) refl
+append_no_texts large slots rows texts = rw (with_offsets large true, text_is large true, texts) refl
 
 pub append_steps : (large text : Bool) (old new : OffsetLists) (rows : List (Option (List ℕ))) → new ≡ written_lists (offset_slots old ++ map slot_of rows) → IsWellFormed (offset_column large text new) → StepsTo (offset_column large text old) (Append rows) (offset_column large text new)
 unfolding slots_after
@@ -186,7 +185,7 @@ append_steps large text old new rows is formed =
 
 pub rebuild_fault : (large text wide texts : Bool) (slots : List Slot) (next : Kind) (greatest : ℕ) → kind_of next ≡ offset_kind wide texts → greatest_offset wide ≡ greatest → (texts && not text) ≡ false → step_fault (offset_kind large text) slots (Rebuild next) ≡ room_fault (Some greatest) (written_slots slots)
 unfolding step_fault
-rebuild_fault large text wide texts slots next greatest kind is may = rw (kind, no_views large text, no_views wide texts, text_is wide texts, text_is large text, may, greatest_is wide texts, is) refl
+rebuild_fault large text wide texts slots next greatest kind is may = rw (kind, with_offsets large text, with_offsets wide texts, text_is wide texts, text_is large text, may, greatest_is wide texts, is) refl
 
 wrong_by : (old new text other : Bool) → (text && not other) ≡ true → (old || new || text && not other) ≡ true
 wrong_by true new text other wrong = refl
@@ -195,24 +194,25 @@ wrong_by false false text other wrong = wrong
 
 pub wrong_rebuild : (kind : ColumnKind) (slots : List Slot) (next : Kind) → is_text kind ≡ false → is_text (kind_of next) ≡ true → step_fault kind slots (Rebuild next) ≡ Some WrongKind
 unfolding step_fault
-wrong_rebuild kind slots next bytes texts = rw (wrong_by (has_views kind) (has_views (kind_of next)) (is_text (kind_of next)) (is_text kind) (rw (texts, bytes) refl)) refl
+wrong_rebuild kind slots next bytes texts = rw (wrong_by (not (has_offsets kind)) (not (has_offsets (kind_of next))) (is_text (kind_of next)) (is_text kind) (rw (texts, bytes) refl)) refl
 
--- no row is appended to views, and no column is rebuilt from views or into them
-pub append_to_views : (kind : ColumnKind) (slots : List Slot) (rows : List (Option (List ℕ))) → has_views kind ≡ true → step_fault kind slots (Append rows) ≡ Some WrongKind
+-- no row is appended to a column without offsets, and no column is rebuilt from such a kind or into one
+pub append_without_offsets : (kind : ColumnKind) (slots : List Slot) (rows : List (Option (List ℕ))) → has_offsets kind ≡ false → step_fault kind slots (Append rows) ≡ Some WrongKind
 unfolding step_fault
-append_to_views kind slots rows wrong = rw wrong refl
+append_without_offsets kind slots rows wrong = rw wrong refl
 
-pub rebuild_of_views : (kind : ColumnKind) (slots : List Slot) (next : Kind) → has_views kind ≡ true → step_fault kind slots (Rebuild next) ≡ Some WrongKind
+pub rebuild_of_none : (kind : ColumnKind) (slots : List Slot) (next : Kind) → has_offsets kind ≡ false → step_fault kind slots (Rebuild next) ≡ Some WrongKind
 unfolding step_fault
-rebuild_of_views kind slots next wrong = rw wrong refl
+rebuild_of_none kind slots next wrong = rw wrong refl
 
-views_by : (old text other : Bool) → (old || true || text && not other) ≡ true
-views_by true text other = refl
-views_by false text other = refl
+none_by : (old new text other : Bool) → new ≡ false → (old || not new || text && not other) ≡ true
+none_by true new text other wrong = refl
+none_by false true text other wrong = absurd (cc)
+none_by false false text other wrong = refl
 
-pub rebuild_to_views : (kind : ColumnKind) (slots : List Slot) (next : Kind) → has_views (kind_of next) ≡ true → step_fault kind slots (Rebuild next) ≡ Some WrongKind
+pub rebuild_to_none : (kind : ColumnKind) (slots : List Slot) (next : Kind) → has_offsets (kind_of next) ≡ false → step_fault kind slots (Rebuild next) ≡ Some WrongKind
 unfolding step_fault
-rebuild_to_views kind slots next wrong = rw (wrong, views_by (has_views kind) (is_text (kind_of next)) (is_text kind)) refl
+rebuild_to_none kind slots next wrong = rw (none_by (not (has_offsets kind)) (has_offsets (kind_of next)) (is_text (kind_of next)) (is_text kind) wrong) refl
 
 pub rebuild_steps : (large text wide texts : Bool) (old new : OffsetLists) (next : Kind) → kind_of next ≡ offset_kind wide texts → new ≡ written_lists (written_slots (offset_slots old)) → IsWellFormed (offset_column wide texts new) → StepsTo (offset_column large text old) (Rebuild next) (offset_column wide texts new)
 unfolding slots_after
@@ -225,7 +225,7 @@ rebuild_steps large text wide texts old new next kind is formed =
       laid = is ∙ ap written_lists (sym slots);
     }
 
-pub ruleset rebuild_faults = (text_is, wrong_rebuild, rebuild_to_views, rebuild_of_views)
+pub ruleset rebuild_faults = (text_is, wrong_rebuild, rebuild_to_none, rebuild_of_none)
 
 -- ---- answers
 

@@ -28,7 +28,7 @@ use Rattle.column_offset.specs.Offsets.{AreSoundOffsets, last_of, offset_at, nat
 use Rattle.column_offset.specs.Growth.{pushed, extended, lengths_of, limit_fault, ExtendsByLengths}
 use Rattle.column_offset.specs.Text.{pieces, are_well_formed_utf8}
 use Rattle.column_offset.proofs.GrowthLemmas.{last_of-push, within_limit}
-use Rattle.column_offset.proofs.OffsetsLemmas.{place_below_last, pos-nat_of, nat_of_order, from_zero}
+use Rattle.column_offset.proofs.OffsetsLemmas.{place_below_last, pos-nat_of, nat_of_order}
 use Rattle.column_offset.proofs.TextLemmas.{covered_is}
 use Rattle.column_binary.specs.Slots.{OffsetLists, offset_lists, slot_count, offset_slots, AreSoundLists}
 use Rattle.column_binary.specs.Rows.{AreFullLists, no_slots, slot_of, row_length, pushed_row, row_fault, row_growth, used_lists, frozen_lists, joined_lists, builder_fault}

@@ -6,7 +6,9 @@ use Rattle.column_relayout.specs.declared.steps.Step.{Step}
 use Rattle.column_relayout.specs.declared.steps.Step.TheVariants.{Slice, Left, Right}
 use Rattle.column_relayout.specs.Kinds.{is_text}
 use Rattle.column_binview.specs.Slots.{view_lists, view_count}
-use Rattle.column_relayout.specs.Columns.{RawLists, offset_column, view_column, column_kind, count_of, part_of, retyped}
+use Rattle.column_fixed.specs.Slots.{fixed_lists, fixed_count}
+use Rattle.column_primitive.specs.Numbers.{number_lists, number_count, number_array}
+use Rattle.column_relayout.specs.Columns.{RawLists, offset_column, view_column, fixed_column, number_column, column_kind, count_of, part_of, retyped}
 use Rattle.column_relayout.specs.Plans.{kind_after}
 
 -- The slots that light steps leave of the first ones: from which on, and how many.
@@ -29,3 +31,5 @@ cut_once column plan =
 abbrev pub as_read : RawLists → RawLists
 as_read (offset_column large text lists) = offset_column large text (offset_lists lists.offsets lists.values (Some (flags_of (slot_count lists) lists.flags)))
 as_read (view_column text lists) = view_column text (view_lists lists.views lists.buffers (Some (flags_of (view_count lists) lists.flags)))
+as_read (fixed_column lists) = fixed_column (fixed_lists lists.width lists.values (Some (flags_of (fixed_count lists) lists.flags)))
+as_read (number_column array) = number_column (number_array array.dtype (number_lists array.lists.numbers (Some (flags_of (number_count array.lists) array.lists.flags))))

@@ -4,7 +4,7 @@ use Rattle.column_base.specs.Integers.{greatest_offset}
 use Rattle.column_base.specs.Kinds.{ColumnKind}
 use Rattle.column_base.specs.Kinds as kinds
 use Rattle.column_relayout.specs.declared.kind.Kind.{Kind}
-use Rattle.column_relayout.specs.declared.kind.Kind.TheVariants.{Binary32, Binary64, Utf8_32, Utf8_64, BinView, Utf8View}
+use Rattle.column_relayout.specs.declared.kind.Kind.TheVariants.{Binary32, Binary64, Utf8_32, Utf8_64, BinView, Utf8View, Fixed, Int64}
 
 -- the kind, as plain data
 abbrev pub kind_of : Kind → ColumnKind
@@ -14,6 +14,8 @@ kind_of Utf8_32 = kinds.Utf8_32
 kind_of Utf8_64 = kinds.Utf8_64
 kind_of BinView = kinds.BinView
 kind_of Utf8View = kinds.Utf8View
+kind_of (Fixed width) = kinds.Fixed width
+kind_of Int64 = kinds.Int64
 
 -- the word for a kind: this library's own
 abbrev pub kind_name : ColumnKind → List ℕ
@@ -73,7 +75,15 @@ has_views kinds.BinView = true
 has_views kinds.Utf8View = true
 has_views kind = false
 
--- Arrow columnar format, "Variable-size Binary Layout": the greatest offset of a kind, where it has offsets
+-- Arrow columnar format, "Variable-size Binary Layout": slots are told by offsets
+abbrev pub has_offsets : ColumnKind → Bool
+has_offsets kinds.Binary32 = true
+has_offsets kinds.Binary64 = true
+has_offsets kinds.Utf8_32 = true
+has_offsets kinds.Utf8_64 = true
+has_offsets kind = false
+
+-- the greatest offset of a kind, where it has offsets
 abbrev pub greatest_of : ColumnKind → Option ℕ
 greatest_of kinds.Binary32 = Some (greatest_offset false)
 greatest_of kinds.Utf8_32 = Some (greatest_offset false)

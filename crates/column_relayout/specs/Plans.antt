@@ -10,7 +10,7 @@ use Rattle.column_offset.specs.Text.{are_well_formed_utf8, texts_fault}
 use Rattle.column_binary.specs.Rows.{slot_of}
 use Rattle.column_relayout.specs.declared.steps.Step.{Step}
 use Rattle.column_relayout.specs.declared.steps.Step.TheVariants.{Slice, Left, Right, ToUtf8, ToBinary, Append, Rebuild}
-use Rattle.column_relayout.specs.Kinds.{kind_of, is_text, is_binary, has_views, text_kind, binary_kind, greatest_of}
+use Rattle.column_relayout.specs.Kinds.{kind_of, is_text, is_binary, has_views, has_offsets, text_kind, binary_kind, greatest_of}
 use Rattle.column_relayout.specs.Columns.{RawLists, column_kind, slots_of, count_of, part_of, retyped}
 use Rattle.column_relayout.specs.Written.{written_slots, given_rows, room_fault}
 
@@ -28,7 +28,7 @@ text_fault kind slots =
     then cause_if (not (are_well_formed_utf8 (values_of slots))) InvalidUtf8
     else texts_fault (values_of slots)
 
--- the first fault of a step; columns with views are neither written nor appended to yet
+-- the first fault of a step; columns without offsets are neither written nor appended to yet
 unfoldable pub step_fault : ColumnKind → List Slot → Step → Option Cause
 step_fault kind slots (Slice from n) = range_fault (length slots) (from + n)
 step_fault kind slots (Left n) = range_fault (length slots) n
@@ -36,11 +36,11 @@ step_fault kind slots (Right n) = range_fault (length slots) n
 step_fault kind slots ToUtf8 = cause_if (not (is_binary kind)) WrongKind or_else text_fault kind slots
 step_fault kind slots ToBinary = cause_if (not (is_text kind)) WrongKind
 step_fault kind slots (Append rows) =
-    cause_if (has_views kind) WrongKind
+    cause_if (not (has_offsets kind)) WrongKind
     or_else cause_if (is_text kind && not (are_well_formed_utf8 (given_rows rows))) InvalidUtf8
     or_else room_fault (greatest_of kind) (slots ++ map slot_of rows)
 step_fault kind slots (Rebuild next) =
-    cause_if (has_views kind || has_views (kind_of next) || is_text (kind_of next) && not (is_text kind)) WrongKind
+    cause_if (not (has_offsets kind) || not (has_offsets (kind_of next)) || is_text (kind_of next) && not (is_text kind)) WrongKind
     or_else room_fault (greatest_of (kind_of next)) (written_slots slots)
 
 -- the kind that a step gives

@@ -3,14 +3,16 @@ use Rattle.std.specs.Prelude.{◌≡◌, List, [], ◌∷◌, None}
 use Rattle.column_relayout.specs.declared.steps.Step.{Step}
 use Rattle.column_relayout.specs.declared.steps.Step.TheVariants.{Append, Rebuild}
 use Rattle.column_binary.specs.Slots.{offset_slots}
-use Rattle.column_relayout.specs.Columns.{RawLists, offset_column, view_column, column_kind, slots_of, IsWellFormed}
+use Rattle.column_relayout.specs.Columns.{RawLists, offset_column, view_column, fixed_column, number_column, column_kind, slots_of, IsWellFormed}
 use Rattle.column_relayout.specs.Written.{written_lists}
 use Rattle.column_relayout.specs.Plans.{step_fault, kind_after, slots_after, light_step}
 
--- The lists are those of their own slots, written anew. Lists with views are not yet.
+-- The lists are those of their own slots, written anew. Lists without offsets are not yet.
 abbrev pub IsWritten : RawLists → Type 0
 IsWritten (offset_column large text lists) = lists ≡ written_lists (offset_slots lists)
 IsWritten (view_column text lists) = ⊥
+IsWritten (fixed_column lists) = ⊥
+IsWritten (number_column array) = ⊥
 
 -- what a step promises of the lists
 abbrev pub IsLaid : RawLists → Step → RawLists → Type 0

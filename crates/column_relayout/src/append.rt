@@ -23,10 +23,11 @@ use std::alloc::Global;
 /// The slots as they are, and after them one of each row: valid, with its bytes, or null where the row is missing. The
 /// column is consumed, and its lists are new.
 ///
-/// `WrongKind` where the column has views, to which no row is appended yet. Else `InvalidUtf8` where the column is one of
-/// texts and a row is not UTF-8, and else `Overflow` where the bytes of all slots and rows together pass the greatest offset. `NoMemory` where there is none for the lists, and never where there
-/// is a cause.
-#[tactic(auto, using(crate::proofs::StepsLemmas::append_to_views))]
+/// `WrongKind` where the column has no offsets: to views, to byte strings of one width and to numbers no row is
+/// appended yet. Else `InvalidUtf8` where the column is one of texts and a row is not UTF-8, and else `Overflow` where
+/// the bytes of all slots and rows together pass the greatest offset. `NoMemory` where there is none for the lists, and
+/// never where there is a cause.
+#[tactic(auto, using(crate::proofs::StepsLemmas::append_without_offsets))]
 pub fn step_append(alloc: Global, column: AnyArray, rows: &Rows) -> Result<AnyArray, PolarsError>
     ensures { StepAnswers (lists_of column) (Append rows.now) result }
 {
@@ -37,6 +38,8 @@ pub fn step_append(alloc: Global, column: AnyArray, rows: &Rows) -> Result<AnyAr
         AnyArray::Utf8_64(array) => Ok(AnyArray::Utf8_64(append_texts(alloc, array, rows)?)),
         AnyArray::BinView(_) => Err(Cause::WrongKind.into()),
         AnyArray::Utf8View(_) => Err(Cause::WrongKind.into()),
+        AnyArray::Fixed(_) => Err(Cause::WrongKind.into()),
+        AnyArray::Int64(_) => Err(Cause::WrongKind.into()),
     }
 }
 

@@ -5,6 +5,8 @@ ghost use Rattle.std.specs.Prelude.{◌≡◌, ◌+◌, ◌≤◌, length as lis
 use column_base::{Offset, ViewKind};
 use column_binary::BinaryArray;
 use column_binview::BinaryViewArrayGeneric;
+use column_fixed::FixedSizeBinaryArray;
+use column_primitive::Int64Array;
 use column_utf8::Utf8Array;
 
 /// Arrays that can be cut.
@@ -75,6 +77,44 @@ impl<K: ViewKind> Column for BinaryViewArrayGeneric<K> {
     ghost use Rattle.column_relayout.specs.Columns.{view_column};
 
     ghost raw = { λ array. view_column K.IS_UTF8 array };
+
+    fn known(&self) {
+        self.known();
+    }
+
+    fn count(&self) -> usize {
+        self.len()
+    }
+
+    fn part(self, offset: usize, length: usize) -> Self {
+        self.sliced(offset, length)
+    }
+}
+
+#[tactic(auto, using(crate::proofs::ColumnsLemmas::fixed_well_formed))]
+impl Column for FixedSizeBinaryArray {
+    ghost use Rattle.column_relayout.specs.Columns.{fixed_column};
+
+    ghost raw = { λ array. fixed_column array };
+
+    fn known(&self) {
+        self.known();
+    }
+
+    fn count(&self) -> usize {
+        self.len()
+    }
+
+    fn part(self, offset: usize, length: usize) -> Self {
+        self.sliced(offset, length)
+    }
+}
+
+#[tactic(auto, using(crate::proofs::ColumnsLemmas::numbers_well_formed, crate::proofs::ColumnsLemmas::number_part))]
+impl Column for Int64Array {
+    ghost use Rattle.column_relayout.specs.Columns.{number_column};
+
+    ghost raw = { λ array. number_column array };
 
     fn known(&self) {
         self.known();

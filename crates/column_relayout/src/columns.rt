@@ -7,6 +7,8 @@ use crate::arrays::Column;
 use column_base::Cause;
 use column_binary::BinaryArray;
 use column_binview::{BinaryViewArray, Utf8ViewArray};
+use column_fixed::FixedSizeBinaryArray;
+use column_primitive::Int64Array;
 use column_storage::{Bitmap, Buffer, DataBuffers};
 use column_utf8::Utf8Array;
 use column_view::View;
@@ -47,6 +49,22 @@ pub enum RawColumn {
         /// A flag for each slot, where true is valid.
         validity: Option<Bitmap>,
     },
+    /// Byte strings of one width. Arrow columnar format, "Fixed-size Primitive Layout".
+    Fixed {
+        /// How many bytes each slot has.
+        width: usize,
+        /// The bytes of the slots, those of each after those of the one before it.
+        values: Buffer<u8>,
+        /// A flag for each slot, where true is valid.
+        validity: Option<Bitmap>,
+    },
+    /// Signed numbers of 64 bits. Arrow columnar format, "Fixed-size Primitive Layout".
+    Int64 {
+        /// A number for each slot.
+        numbers: Buffer<i64>,
+        /// A flag for each slot, where true is valid.
+        validity: Option<Bitmap>,
+    },
 }
 
 /// A column of one of the kinds.
@@ -64,6 +82,10 @@ pub enum AnyArray {
     BinView(BinaryViewArray),
     /// Texts by views.
     Utf8View(Utf8ViewArray),
+    /// Byte strings of one width.
+    Fixed(FixedSizeBinaryArray),
+    /// Signed numbers of 64 bits, with the data type that says what they mean.
+    Int64(Int64Array),
 }
 
 impl AnyArray {
@@ -78,6 +100,8 @@ impl AnyArray {
             AnyArray::Utf8_64(array) => Column::known(array),
             AnyArray::BinView(array) => Column::known(array),
             AnyArray::Utf8View(array) => Column::known(array),
+            AnyArray::Fixed(array) => Column::known(array),
+            AnyArray::Int64(array) => Column::known(array),
         }
     }
 }

@@ -20,9 +20,9 @@ use column_utf8::{Utf8Array, try_into_utf8};
 
 /// The same slots as texts, in the same layout. The column is consumed. Takes no memory.
 ///
-/// `WrongKind` where the column is not one of byte strings. Else, with offsets, `InvalidUtf8` where the bytes of all slots
-/// are not UTF-8 end to end, null ones too, or `CharBoundary` where they are and some slot by itself is not; with views,
-/// `InvalidUtf8` where some slot by itself is not, a null one too.
+/// `WrongKind` where the column is not one of byte strings with offsets or views. Else, with offsets, `InvalidUtf8`
+/// where the bytes of all slots are not UTF-8 end to end, null ones too, or `CharBoundary` where they are and some slot
+/// by itself is not; with views, `InvalidUtf8` where some slot by itself is not, a null one too.
 #[tactic(auto, using(crate::proofs::StepsLemmas::kind_laws))]
 pub fn step_to_utf8(column: AnyArray) -> Result<AnyArray, Cause>
     ensures { StepGives (lists_of column) ToUtf8 result }
@@ -33,6 +33,8 @@ pub fn step_to_utf8(column: AnyArray) -> Result<AnyArray, Cause>
         AnyArray::BinView(array) => Ok(AnyArray::Utf8View(to_text_views(array)?)),
         AnyArray::Utf8_32(_) | AnyArray::Utf8_64(_) => Err(Cause::WrongKind),
         AnyArray::Utf8View(_) => Err(Cause::WrongKind),
+        AnyArray::Fixed(_) => Err(Cause::WrongKind),
+        AnyArray::Int64(_) => Err(Cause::WrongKind),
     }
 }
 
@@ -49,6 +51,8 @@ pub fn step_to_binary(column: AnyArray) -> Result<AnyArray, Cause>
         AnyArray::Utf8View(array) => Ok(AnyArray::BinView(to_byte_views(array))),
         AnyArray::Binary32(_) | AnyArray::Binary64(_) => Err(Cause::WrongKind),
         AnyArray::BinView(_) => Err(Cause::WrongKind),
+        AnyArray::Fixed(_) => Err(Cause::WrongKind),
+        AnyArray::Int64(_) => Err(Cause::WrongKind),
     }
 }
 

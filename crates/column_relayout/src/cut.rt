@@ -22,6 +22,8 @@ pub fn step_slice(column: AnyArray, offset: usize, length: usize) -> Result<AnyA
         AnyArray::Utf8_64(array) => Ok(AnyArray::Utf8_64(slice(array, offset, length)?)),
         AnyArray::BinView(array) => Ok(AnyArray::BinView(slice(array, offset, length)?)),
         AnyArray::Utf8View(array) => Ok(AnyArray::Utf8View(slice(array, offset, length)?)),
+        AnyArray::Fixed(array) => Ok(AnyArray::Fixed(slice(array, offset, length)?)),
+        AnyArray::Int64(array) => Ok(AnyArray::Int64(slice(array, offset, length)?)),
     }
 }
 
@@ -38,6 +40,8 @@ pub fn step_left(column: AnyArray, count: usize) -> Result<AnyArray, Cause>
         AnyArray::Utf8_64(array) => Ok(AnyArray::Utf8_64(left(array, count)?)),
         AnyArray::BinView(array) => Ok(AnyArray::BinView(left(array, count)?)),
         AnyArray::Utf8View(array) => Ok(AnyArray::Utf8View(left(array, count)?)),
+        AnyArray::Fixed(array) => Ok(AnyArray::Fixed(left(array, count)?)),
+        AnyArray::Int64(array) => Ok(AnyArray::Int64(left(array, count)?)),
     }
 }
 
@@ -54,6 +58,8 @@ pub fn step_right(column: AnyArray, count: usize) -> Result<AnyArray, Cause>
         AnyArray::Utf8_64(array) => Ok(AnyArray::Utf8_64(right(array, count)?)),
         AnyArray::BinView(array) => Ok(AnyArray::BinView(right(array, count)?)),
         AnyArray::Utf8View(array) => Ok(AnyArray::Utf8View(right(array, count)?)),
+        AnyArray::Fixed(array) => Ok(AnyArray::Fixed(right(array, count)?)),
+        AnyArray::Int64(array) => Ok(AnyArray::Int64(right(array, count)?)),
     }
 }
 

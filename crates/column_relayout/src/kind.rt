@@ -18,6 +18,10 @@ pub enum Kind {
     BinView,
     /// Texts by views.
     Utf8View,
+    /// Byte strings of this many bytes each: "Fixed-size Primitive Layout".
+    Fixed(usize),
+    /// Signed numbers of 64 bits.
+    Int64,
 }
 
 impl Kind {
@@ -32,6 +36,8 @@ impl Kind {
             Kind::Utf8_64 => "utf8_64",
             Kind::BinView => "binview",
             Kind::Utf8View => "utf8view",
+            Kind::Fixed(_) => "fixed",
+            Kind::Int64 => "int64",
         }
     }
 }

@@ -35,13 +35,13 @@ pub fn light_plans_cut()
 /// which may stand or not. Read with the flag of each slot, lists have the same slots.
 #[tactic(auto, using(crate::proofs::CutsLemmas::light_cut, crate::proofs::ColumnsLemmas::as_read_slots))]
 pub fn light_plans_cut_once()
-    ensures cut { (parts column : RawLists) (plan : List Step) → IsWithinType parts → parts_fault parts ≡ None → Relays parts plan column → IsLight plan
+    ensures cut { (parts column : RawLists) (plan : List Step) → parts_fault parts ≡ None → Relays parts plan column → IsLight plan
         → as_read column ≡ as_read (cut_once parts plan) }
     ensures slots { (column : RawLists) → slots_of (as_read column) ≡ slots_of column }
 {}
 
-/// A light plan keeps the bytes that slots share whole: the value bytes of a column with offsets, the buffers of one with
-/// views.
+/// A light plan keeps the bytes that slots share whole: the value bytes of a column with offsets, the buffers of one
+/// with views. Slots of one length share none.
 #[tactic(auto, using(crate::proofs::PlansLemmas::light_keeps))]
 pub fn light_plans_keep_bytes()
     ensures { (parts column : RawLists) (plan : List Step) → Relays parts plan column → IsLight plan
@@ -69,8 +69,8 @@ pub fn light_steps_cut_what_a_step_left()
         → (old : RawLists) × ((middle : RawLists) × Relays parts plan old × StepsTo old step middle × (column ≡ light_lists middle light)) }
 {}
 
-/// Where the last heavy step leads to a kind with offsets, its slots were written anew, and the light steps after it cut
-/// those lists. Without such steps the column is what was written.
+/// Where the last heavy step leads to a kind with offsets, its slots were written anew, and the light steps after it
+/// cut those lists. Without such steps the column is what was written.
 #[tactic(auto, using(crate::proofs::PlansLemmas::written_cut))]
 pub fn light_steps_cut_what_was_written()
     ensures { (parts column : RawLists) (plan light : List Step) (step : Step) (large text : Bool) (slots : List Slot)

@@ -19,13 +19,13 @@ use column_binary::{BinaryArray, MutableBinaryArray};
 use column_utf8::Utf8Array;
 use std::alloc::Global;
 
-/// The valid slots as they are, and null ones without bytes, in a column of the kind, whose lists are new. The column is
-/// consumed.
+/// The valid slots as they are, and null ones without bytes, in a column of the kind, whose lists are new. The column
+/// is consumed.
 ///
-/// `WrongKind` where the kind or the column has views, which are neither written nor rewritten yet, and where the kind is
-/// one of texts and the column is not; and else `Overflow` where the bytes of the valid
-/// slots together pass the kind's greatest offset. `NoMemory` where there is none for the lists, and never where there
-/// is a cause.
+/// `WrongKind` where the kind or the column has no offsets, since views, byte strings of one width and numbers are
+/// neither written nor rewritten yet, and where the kind is one of texts and the column is not; and else `Overflow`
+/// where the bytes of the valid slots together pass the kind's greatest offset. `NoMemory` where there is none for the
+/// lists, and never where there is a cause.
 #[tactic(auto, using(crate::proofs::StepsLemmas::rebuild_faults))]
 pub fn step_rebuild(alloc: Global, column: AnyArray, kind: Kind) -> Result<AnyArray, PolarsError>
     ensures { StepAnswers (lists_of column) (Rebuild kind) result }
@@ -37,6 +37,8 @@ pub fn step_rebuild(alloc: Global, column: AnyArray, kind: Kind) -> Result<AnyAr
         AnyArray::Utf8_64(array) => rebuild_texts(alloc, array, kind),
         AnyArray::BinView(_) => Err(Cause::WrongKind.into()),
         AnyArray::Utf8View(_) => Err(Cause::WrongKind.into()),
+        AnyArray::Fixed(_) => Err(Cause::WrongKind.into()),
+        AnyArray::Int64(_) => Err(Cause::WrongKind.into()),
     }
 }
 
@@ -54,6 +56,7 @@ fn rebuild_bytes<O: Offset>(
         Kind::Utf8_32 | Kind::Utf8_64 | Kind::BinView | Kind::Utf8View => {
             Err(Cause::WrongKind.into())
         }
+        Kind::Fixed(_) | Kind::Int64 => Err(Cause::WrongKind.into()),
     }
 }
 
@@ -71,6 +74,7 @@ fn rebuild_texts<O: Offset>(
         Kind::Utf8_32 => Ok(AnyArray::Utf8_32(texts_to_texts(alloc, array, kind)?)),
         Kind::Utf8_64 => Ok(AnyArray::Utf8_64(texts_to_texts(alloc, array, kind)?)),
         Kind::BinView | Kind::Utf8View => Err(Cause::WrongKind.into()),
+        Kind::Fixed(_) | Kind::Int64 => Err(Cause::WrongKind.into()),
     }
 }
 

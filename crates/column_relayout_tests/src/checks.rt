@@ -18,6 +18,8 @@ pub fn words_are() -> bool {
         && Kind::Utf8_64.name() == "utf8_64"
         && Kind::BinView.name() == "binview"
         && Kind::Utf8View.name() == "utf8view"
+        && Kind::Fixed(3).name() == "fixed"
+        && Kind::Int64.name() == "int64"
 }
 
 // ---- lists
@@ -37,6 +39,8 @@ pub fn kind_of(column: &AnyArray) -> Kind {
         AnyArray::Utf8_64(_) => Kind::Utf8_64,
         AnyArray::BinView(_) => Kind::BinView,
         AnyArray::Utf8View(_) => Kind::Utf8View,
+        AnyArray::Fixed(array) => Kind::Fixed(array.size()),
+        AnyArray::Int64(_) => Kind::Int64,
     }
 }
 
@@ -46,7 +50,7 @@ fn offsets_are(column: &AnyArray, wanted: &[i32]) -> bool {
         AnyArray::Binary64(array) => wide_are(array.offsets().as_slice(), wanted),
         AnyArray::Utf8_32(array) => array.offsets().as_slice() == wanted,
         AnyArray::Utf8_64(array) => wide_are(array.offsets().as_slice(), wanted),
-        AnyArray::BinView(_) | AnyArray::Utf8View(_) => false,
+        _ => false,
     }
 }
 
@@ -56,7 +60,7 @@ fn values_of(column: &AnyArray) -> &[u8] {
         AnyArray::Binary64(array) => array.values().as_slice(),
         AnyArray::Utf8_32(array) => array.values().as_slice(),
         AnyArray::Utf8_64(array) => array.values().as_slice(),
-        AnyArray::BinView(_) | AnyArray::Utf8View(_) => &[],
+        _ => &[],
     }
 }
 
@@ -68,6 +72,8 @@ fn validity_of(column: &AnyArray) -> Option<&Bitmap> {
         AnyArray::Utf8_64(array) => array.validity(),
         AnyArray::BinView(array) => array.validity(),
         AnyArray::Utf8View(array) => array.validity(),
+        AnyArray::Fixed(array) => array.validity(),
+        AnyArray::Int64(array) => array.validity(),
     }
 }
 

@@ -8,6 +8,8 @@ mod cases;
 #[cfg(test)]
 mod checks;
 #[cfg(test)]
+mod lengths;
+#[cfg(test)]
 mod tests;
 #[cfg(test)]
 mod views;

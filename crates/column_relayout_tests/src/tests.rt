@@ -10,12 +10,17 @@ use crate::checks::{
     all_are_told, all_convert, all_cut, all_pass, both_lead, both_refuse, calls_are, first_steps,
     wide_is_told, words_are,
 };
-use crate::views::{no_views_are_rebuilt, views_are_cut, views_lead, views_refuse};
+use crate::lengths::{
+    Numbers, Widths, fixed_is_no_kind, fixed_leads, fixed_refuses, fixed_told, numbers_are_no_kind,
+    numbers_lead, numbers_of, numbers_refuse, numbers_told, third_is_left, third_number_is_left,
+    widths_of,
+};
+use crate::views::{none_is_rebuilt, views_are_cut, views_lead, views_refuse};
 use column_base::Cause;
 use column_checks::Flags;
 use column_relayout::Step::{self, Append, Rebuild};
 use column_relayout::{
-    Kind, Rows, last_step_after_light_ones, last_step_is_taken, light_plans_cut,
+    ColumnError, Kind, Rows, last_step_after_light_ones, last_step_is_taken, light_plans_cut,
     light_plans_cut_once, light_plans_keep_bytes, light_steps_cut_what_a_step_left,
     light_steps_cut_what_was_written, no_fault_is_well_formed, relays_lead, written_slots_are_same,
 };
@@ -36,22 +41,23 @@ fn kinds_have_words(rt: HostRuntime) {
     written_slots_are_same();
 }
 
+// Bytes before the first and after the last offset need not be UTF-8, and flags that are all set are kept.
+const PARTS: [(&[i32], &[u8], Flags<'_>); 10] = [
+    (&[0], b"", None),
+    (&[0], b"", Some(&[])),
+    (&[1], b"\xff\xff", None),
+    (&[2, 2], b"\xff\xff\xff", Some(&[false])),
+    (&[1, 3, 3, 4], b"\xffabc\xff", Some(&[true, false, true])),
+    (&[0, 1, 2], b"ab", Some(&[true, true])),
+    (&[0, 1, 3], b"a\xc3\xa9", None),
+    (&[2, 5, 9], b"\xc3\xa9\xe2\x82\xac\xf0\x9f\x98\x80", None),
+    (&[1], b"\xff\xff", Some(&[])),
+    (&[1, 1], b"\xff\xff", Some(&[false])),
+];
+
 #[test]
 fn parts_become_columns(rt: HostRuntime) -> Result<(), Fail> {
-    // Bytes before the first and after the last offset need not be UTF-8, and flags that are all set are kept.
-    let table: [(&[i32], &[u8], Flags<'_>); 10] = [
-        (&[0], b"", None),
-        (&[0], b"", Some(&[])),
-        (&[1], b"\xff\xff", None),
-        (&[2, 2], b"\xff\xff\xff", Some(&[false])),
-        (&[1, 3, 3, 4], b"\xffabc\xff", Some(&[true, false, true])),
-        (&[0, 1, 2], b"ab", Some(&[true, true])),
-        (&[0, 1, 3], b"a\xc3\xa9", None),
-        (&[2, 5, 9], b"\xc3\xa9\xe2\x82\xac\xf0\x9f\x98\x80", None),
-        (&[1], b"\xff\xff", Some(&[])),
-        (&[1, 1], b"\xff\xff", Some(&[false])),
-    ];
-    for (offsets, values, flags) in table {
+    for (offsets, values, flags) in PARTS {
         let own = lists_of(offsets, values, flags);
         assert!(rt;
             all_are_told(rt.alloc(), own, None, None)?,
@@ -65,19 +71,20 @@ fn parts_become_columns(rt: HostRuntime) -> Result<(), Fail> {
     Ok(())
 }
 
+const FAULTS: [(&[i32], &[u8], Flags<'_>, Cause); 8] = [
+    (&[], b"", None, Cause::OffsetsEmpty),
+    (&[-1, 0], b"", None, Cause::OffsetsNegative),
+    (&[0, 2, 1], b"ab", None, Cause::OffsetsNotMonotone),
+    (&[0, 3], b"ab", None, Cause::OffsetsExceedValues),
+    (&[0, 2147483647], b"ab", None, Cause::OffsetsExceedValues),
+    (&[0, 1], b"a", Some(&[]), Cause::ValidityLength),
+    (&[0, 1], b"a", Some(&[true, true]), Cause::ValidityLength),
+    (&[0], b"", Some(&[true]), Cause::ValidityLength),
+];
+
 #[test]
 fn a_fault_of_parts_is_told(rt: HostRuntime) -> Result<(), Fail> {
-    let table: [(&[i32], &[u8], Flags<'_>, Cause); 8] = [
-        (&[], b"", None, Cause::OffsetsEmpty),
-        (&[-1, 0], b"", None, Cause::OffsetsNegative),
-        (&[0, 2, 1], b"ab", None, Cause::OffsetsNotMonotone),
-        (&[0, 3], b"ab", None, Cause::OffsetsExceedValues),
-        (&[0, 2147483647], b"ab", None, Cause::OffsetsExceedValues),
-        (&[0, 1], b"a", Some(&[]), Cause::ValidityLength),
-        (&[0, 1], b"a", Some(&[true, true]), Cause::ValidityLength),
-        (&[0], b"", Some(&[true]), Cause::ValidityLength),
-    ];
-    for (offsets, values, flags, cause) in table {
+    for (offsets, values, flags, cause) in FAULTS {
         let own = lists_of(offsets, values, flags);
         let fault = Some(cause);
         assert!(rt;
@@ -88,20 +95,21 @@ fn a_fault_of_parts_is_told(rt: HostRuntime) -> Result<(), Fail> {
     Ok(())
 }
 
+const TWO_FAULTS: [(&[i32], &[u8], Flags<'_>, Cause); 9] = [
+    (&[], b"", Some(&[true]), Cause::OffsetsEmpty),
+    (&[-1, -2], b"", None, Cause::OffsetsNegative),
+    (&[-1, 3], b"ab", None, Cause::OffsetsNegative),
+    (&[-1, 1], b"a", Some(&[]), Cause::OffsetsNegative),
+    (&[0, 4, 3], b"ab", None, Cause::OffsetsNotMonotone),
+    (&[0, 2, 1], b"\xff\xff", None, Cause::OffsetsNotMonotone),
+    (&[0, 2, 1], b"ab", Some(&[]), Cause::OffsetsNotMonotone),
+    (&[0, 3], b"\xff\xff", None, Cause::OffsetsExceedValues),
+    (&[0, 3], b"ab", Some(&[]), Cause::OffsetsExceedValues),
+];
+
 #[test]
 fn the_first_fault_of_two_is_told(rt: HostRuntime) -> Result<(), Fail> {
-    let table: [(&[i32], &[u8], Flags<'_>, Cause); 9] = [
-        (&[], b"", Some(&[true]), Cause::OffsetsEmpty),
-        (&[-1, -2], b"", None, Cause::OffsetsNegative),
-        (&[-1, 3], b"ab", None, Cause::OffsetsNegative),
-        (&[-1, 1], b"a", Some(&[]), Cause::OffsetsNegative),
-        (&[0, 4, 3], b"ab", None, Cause::OffsetsNotMonotone),
-        (&[0, 2, 1], b"\xff\xff", None, Cause::OffsetsNotMonotone),
-        (&[0, 2, 1], b"ab", Some(&[]), Cause::OffsetsNotMonotone),
-        (&[0, 3], b"\xff\xff", None, Cause::OffsetsExceedValues),
-        (&[0, 3], b"ab", Some(&[]), Cause::OffsetsExceedValues),
-    ];
-    for (offsets, values, flags, cause) in table {
+    for (offsets, values, flags, cause) in TWO_FAULTS {
         let own = lists_of(offsets, values, flags);
         let fault = Some(cause);
         assert!(rt;
@@ -111,33 +119,34 @@ fn the_first_fault_of_two_is_told(rt: HostRuntime) -> Result<(), Fail> {
     }
     Ok(())
 }
+
+const TEXT_FAULTS: [(&[i32], &[u8], Flags<'_>, Cause); 10] = [
+    (&[0, 1], b"\xff", None, Cause::InvalidUtf8),
+    (&[0, 2], b"a\xc3\xa9", None, Cause::InvalidUtf8),
+    (&[1, 2], b"\xc3\xa9", None, Cause::InvalidUtf8),
+    (&[0, 1, 2], b"\xc3\xa9", None, Cause::CharBoundary),
+    (
+        &[0, 0, 1],
+        b"\xff",
+        Some(&[true, false]),
+        Cause::InvalidUtf8,
+    ),
+    (
+        &[0, 1, 2],
+        b"\xc3\xa9",
+        Some(&[false, false]),
+        Cause::CharBoundary,
+    ),
+    (&[0, 1, 3], b"\xc3\xa9\xff", None, Cause::InvalidUtf8),
+    (&[0, 1], b"\xff", Some(&[false]), Cause::InvalidUtf8),
+    (&[0, 3], b"\xed\xa0\x80", None, Cause::InvalidUtf8),
+    (&[0, 2, 4], b"a\xf0\x9f\x98\x80", None, Cause::InvalidUtf8),
+];
 
 #[test]
 fn a_fault_of_texts_is_told(rt: HostRuntime) -> Result<(), Fail> {
     // Null slots are looked at too.
-    let table: [(&[i32], &[u8], Flags<'_>, Cause); 10] = [
-        (&[0, 1], b"\xff", None, Cause::InvalidUtf8),
-        (&[0, 2], b"a\xc3\xa9", None, Cause::InvalidUtf8),
-        (&[1, 2], b"\xc3\xa9", None, Cause::InvalidUtf8),
-        (&[0, 1, 2], b"\xc3\xa9", None, Cause::CharBoundary),
-        (
-            &[0, 0, 1],
-            b"\xff",
-            Some(&[true, false]),
-            Cause::InvalidUtf8,
-        ),
-        (
-            &[0, 1, 2],
-            b"\xc3\xa9",
-            Some(&[false, false]),
-            Cause::CharBoundary,
-        ),
-        (&[0, 1, 3], b"\xc3\xa9\xff", None, Cause::InvalidUtf8),
-        (&[0, 1], b"\xff", Some(&[false]), Cause::InvalidUtf8),
-        (&[0, 3], b"\xed\xa0\x80", None, Cause::InvalidUtf8),
-        (&[0, 2, 4], b"a\xf0\x9f\x98\x80", None, Cause::InvalidUtf8),
-    ];
-    for (offsets, values, flags, cause) in table {
+    for (offsets, values, flags, cause) in TEXT_FAULTS {
         let own = lists_of(offsets, values, flags);
         assert!(rt;
             all_are_told(rt.alloc(), own, None, Some(cause))?,
@@ -161,15 +170,16 @@ fn texts_are_looked_at_before_flags(rt: HostRuntime) -> Result<(), Fail> {
     Ok(())
 }
 
+const WIDE: [(&[i64], Cause); 4] = [
+    (&[0, 4294967296], Cause::OffsetsExceedValues),
+    (&[0, 9223372036854775807], Cause::OffsetsExceedValues),
+    (&[-9223372036854775808, 0], Cause::OffsetsNegative),
+    (&[4294967296, 4294967295], Cause::OffsetsNotMonotone),
+];
+
 #[test]
 fn wide_offsets_are_read_whole(rt: HostRuntime) -> Result<(), Fail> {
-    let table: [(&[i64], Cause); 4] = [
-        (&[0, 4294967296], Cause::OffsetsExceedValues),
-        (&[0, 9223372036854775807], Cause::OffsetsExceedValues),
-        (&[-9223372036854775808, 0], Cause::OffsetsNegative),
-        (&[4294967296, 4294967295], Cause::OffsetsNotMonotone),
-    ];
-    for (offsets, cause) in table {
+    for (offsets, cause) in WIDE {
         assert!(rt;
             wide_is_told(rt.alloc(), false, offsets, cause)?,
             "{offsets:?}"
@@ -191,28 +201,148 @@ fn steps_are_called(rt: HostRuntime) -> Result<(), Fail> {
     Ok(())
 }
 
+const CUTS: [(Light, Span); 17] = [
+    (
+        Slice(0, 3),
+        Span {
+            from: 0,
+            count: 3,
+            flagged: true,
+        },
+    ),
+    (
+        Slice(0, 2),
+        Span {
+            from: 0,
+            count: 2,
+            flagged: true,
+        },
+    ),
+    (
+        Slice(1, 2),
+        Span {
+            from: 1,
+            count: 2,
+            flagged: true,
+        },
+    ),
+    (
+        Slice(1, 1),
+        Span {
+            from: 1,
+            count: 1,
+            flagged: true,
+        },
+    ),
+    (
+        Slice(0, 1),
+        Span {
+            from: 0,
+            count: 1,
+            flagged: false,
+        },
+    ),
+    (
+        Slice(2, 1),
+        Span {
+            from: 2,
+            count: 1,
+            flagged: false,
+        },
+    ),
+    (
+        Slice(0, 0),
+        Span {
+            from: 0,
+            count: 0,
+            flagged: false,
+        },
+    ),
+    (
+        Slice(1, 0),
+        Span {
+            from: 1,
+            count: 0,
+            flagged: false,
+        },
+    ),
+    (
+        Slice(3, 0),
+        Span {
+            from: 3,
+            count: 0,
+            flagged: false,
+        },
+    ),
+    (
+        Left(0),
+        Span {
+            from: 0,
+            count: 0,
+            flagged: false,
+        },
+    ),
+    (
+        Left(1),
+        Span {
+            from: 0,
+            count: 1,
+            flagged: false,
+        },
+    ),
+    (
+        Left(2),
+        Span {
+            from: 0,
+            count: 2,
+            flagged: true,
+        },
+    ),
+    (
+        Left(3),
+        Span {
+            from: 0,
+            count: 3,
+            flagged: true,
+        },
+    ),
+    (
+        Right(0),
+        Span {
+            from: 0,
+            count: 3,
+            flagged: true,
+        },
+    ),
+    (
+        Right(1),
+        Span {
+            from: 1,
+            count: 2,
+            flagged: true,
+        },
+    ),
+    (
+        Right(2),
+        Span {
+            from: 2,
+            count: 1,
+            flagged: false,
+        },
+    ),
+    (
+        Right(3),
+        Span {
+            from: 3,
+            count: 0,
+            flagged: false,
+        },
+    ),
+];
+
 #[test]
 fn cuts_are_the_slots_they_name(rt: HostRuntime) -> Result<(), Fail> {
-    let table: [(Light, Span); 17] = [
-        (Slice(0, 3), span_of(0, 3, true)),
-        (Slice(0, 2), span_of(0, 2, true)),
-        (Slice(1, 2), span_of(1, 2, true)),
-        (Slice(1, 1), span_of(1, 1, true)),
-        (Slice(0, 1), span_of(0, 1, false)),
-        (Slice(2, 1), span_of(2, 1, false)),
-        (Slice(0, 0), span_of(0, 0, false)),
-        (Slice(1, 0), span_of(1, 0, false)),
-        (Slice(3, 0), span_of(3, 0, false)),
-        (Left(0), span_of(0, 0, false)),
-        (Left(1), span_of(0, 1, false)),
-        (Left(2), span_of(0, 2, true)),
-        (Left(3), span_of(0, 3, true)),
-        (Right(0), span_of(0, 3, true)),
-        (Right(1), span_of(1, 2, true)),
-        (Right(2), span_of(2, 1, false)),
-        (Right(3), span_of(3, 0, false)),
-    ];
-    for (step, left) in table {
+    for (step, left) in CUTS {
         assert!(rt; all_cut(rt.alloc(), three(), step, left)?, "{}", left.from);
     }
     Ok(())
@@ -377,52 +507,135 @@ fn plans_lead_to_columns(rt: HostRuntime) -> Result<(), Fail> {
     Ok(())
 }
 
+const OF_BYTES: [Light; 10] = [
+    Slice(0, 8),
+    ToUtf8,
+    Right(1),
+    Left(6),
+    ToBinary,
+    Slice(1, 5),
+    Right(1),
+    ToUtf8,
+    Slice(1, 3),
+    Right(1),
+];
+
+const OF_TEXTS: [Light; 10] = [
+    Slice(0, 8),
+    ToBinary,
+    Right(1),
+    Left(6),
+    ToUtf8,
+    Slice(1, 5),
+    Right(1),
+    ToBinary,
+    Slice(1, 3),
+    Right(1),
+];
+
+// How many of the steps are taken; whether the kind is another then than at first; the slots that are left.
+const TEN: [(usize, bool, Span); 10] = [
+    (
+        1,
+        false,
+        Span {
+            from: 0,
+            count: 8,
+            flagged: true,
+        },
+    ),
+    (
+        2,
+        true,
+        Span {
+            from: 0,
+            count: 8,
+            flagged: true,
+        },
+    ),
+    (
+        3,
+        true,
+        Span {
+            from: 1,
+            count: 7,
+            flagged: true,
+        },
+    ),
+    (
+        4,
+        true,
+        Span {
+            from: 1,
+            count: 6,
+            flagged: true,
+        },
+    ),
+    (
+        5,
+        false,
+        Span {
+            from: 1,
+            count: 6,
+            flagged: true,
+        },
+    ),
+    (
+        6,
+        false,
+        Span {
+            from: 2,
+            count: 5,
+            flagged: true,
+        },
+    ),
+    (
+        7,
+        false,
+        Span {
+            from: 3,
+            count: 4,
+            flagged: true,
+        },
+    ),
+    (
+        8,
+        true,
+        Span {
+            from: 3,
+            count: 4,
+            flagged: true,
+        },
+    ),
+    (
+        9,
+        true,
+        Span {
+            from: 4,
+            count: 3,
+            flagged: true,
+        },
+    ),
+    (
+        10,
+        true,
+        Span {
+            from: 5,
+            count: 2,
+            flagged: false,
+        },
+    ),
+];
+
 #[test]
 fn ten_light_steps_move_no_byte(rt: HostRuntime) -> Result<(), Fail> {
-    let of_bytes: [Light; 10] = [
-        Slice(0, 8),
-        ToUtf8,
-        Right(1),
-        Left(6),
-        ToBinary,
-        Slice(1, 5),
-        Right(1),
-        ToUtf8,
-        Slice(1, 3),
-        Right(1),
-    ];
-    let of_texts: [Light; 10] = [
-        Slice(0, 8),
-        ToBinary,
-        Right(1),
-        Left(6),
-        ToUtf8,
-        Slice(1, 5),
-        Right(1),
-        ToBinary,
-        Slice(1, 3),
-        Right(1),
-    ];
-    // How many of the steps are taken; whether the kind is another then than at first; the slots that are left.
-    let table: [(usize, bool, Span); 10] = [
-        (1, false, span_of(0, 8, true)),
-        (2, true, span_of(0, 8, true)),
-        (3, true, span_of(1, 7, true)),
-        (4, true, span_of(1, 6, true)),
-        (5, false, span_of(1, 6, true)),
-        (6, false, span_of(2, 5, true)),
-        (7, false, span_of(3, 4, true)),
-        (8, true, span_of(3, 4, true)),
-        (9, true, span_of(4, 3, true)),
-        (10, true, span_of(5, 2, false)),
-    ];
-    for (count, is_other, left) in table {
-        let plan = first_steps(&of_bytes, count);
+    for (count, is_other, left) in TEN {
+        let plan = first_steps(&OF_BYTES, count);
         assert!(rt;
             both_lead(rt.alloc(), eight(), plan, (false, is_other), left)?,
             "{count}"
         );
-        let plan = first_steps(&of_texts, count);
+        let plan = first_steps(&OF_TEXTS, count);
         assert!(rt;
             both_lead(rt.alloc(), eight(), plan, (true, !is_other), left)?,
             "{count}"
@@ -553,8 +766,177 @@ fn views_are_not_written_yet(rt: HostRuntime) -> Result<(), Fail> {
     }
     assert!(rt; views_refuse(rt.alloc(), true, Step::ToUtf8)?);
     assert!(rt; views_refuse(rt.alloc(), false, Step::ToBinary)?);
-    assert!(rt; no_views_are_rebuilt(rt.alloc(), false, true, three(), Kind::BinView)?);
-    assert!(rt; no_views_are_rebuilt(rt.alloc(), true, true, three(), Kind::Utf8View)?);
-    assert!(rt; no_views_are_rebuilt(rt.alloc(), true, false, three(), Kind::Utf8View)?);
+    assert!(rt; none_is_rebuilt(rt.alloc(), false, true, three(), Kind::BinView)?);
+    assert!(rt; none_is_rebuilt(rt.alloc(), true, true, three(), Kind::Utf8View)?);
+    assert!(rt; none_is_rebuilt(rt.alloc(), true, false, three(), Kind::Utf8View)?);
+    Ok(())
+}
+
+// ---- slots of one length
+
+const WIDTHS: [(usize, &[u8], Flags<'_>, Option<Cause>); 14] = [
+    (3, b"abcdef", None, None),
+    (3, b"abcdef", Some(&[true, false]), None),
+    (3, b"abcdef", Some(&[true, true]), None),
+    (1, b"", Some(&[]), None),
+    (usize::MAX, b"", None, None),
+    (0, b"", None, Some(Cause::SizeZero)),
+    (0, b"abc", Some(&[true]), Some(Cause::SizeZero)),
+    (3, b"abcdefg", None, Some(Cause::NotMultiple)),
+    (3, b"ab", None, Some(Cause::NotMultiple)),
+    (usize::MAX, b"ab", Some(&[]), Some(Cause::NotMultiple)),
+    (3, b"abcdefg", Some(&[true]), Some(Cause::NotMultiple)),
+    (3, b"abcdef", Some(&[true]), Some(Cause::ValidityLength)),
+    (
+        3,
+        b"abcdef",
+        Some(&[true, true, true]),
+        Some(Cause::ValidityLength),
+    ),
+    (3, b"", Some(&[false]), Some(Cause::ValidityLength)),
+];
+
+#[test]
+fn byte_strings_of_one_width_are_told(rt: HostRuntime) -> Result<(), Fail> {
+    for (width, values, flags, fault) in WIDTHS {
+        let own = widths_of(width, values, flags);
+        assert!(rt; fixed_told(rt.alloc(), own, fault)?, "{width} {values:?}");
+    }
+    Ok(())
+}
+
+const NUMBERS: [(&[i64], Flags<'_>, Option<Cause>); 6] = [
+    (&[], None, None),
+    (&[i64::MAX, i64::MIN], None, None),
+    (&[-1, 7], Some(&[false, true]), None),
+    (&[], Some(&[true]), Some(Cause::ValidityLength)),
+    (&[-1, 7], Some(&[]), Some(Cause::ValidityLength)),
+    (
+        &[-1, 7],
+        Some(&[true, true, true]),
+        Some(Cause::ValidityLength),
+    ),
+];
+
+#[test]
+fn numbers_are_told(rt: HostRuntime) -> Result<(), Fail> {
+    for (numbers, flags, fault) in NUMBERS {
+        let own = numbers_of(numbers, flags);
+        assert!(rt; numbers_told(rt.alloc(), own, fault)?, "{numbers:?}");
+    }
+    Ok(())
+}
+
+const CUT_BYTES: [(&[Light], &[u8], Flags<'_>); 6] = [
+    (&[], b"aabbccdd", Some(&[true, false, true, true])),
+    (&[Left(2)], b"aabb", Some(&[true, false])),
+    (&[Right(1)], b"bbccdd", Some(&[false, true, true])),
+    (&[Slice(1, 2)], b"bbcc", Some(&[false, true])),
+    (&[Slice(1, 3), Right(1), Left(1)], b"cc", None),
+    (&[Right(4), Left(0)], b"", None),
+];
+
+#[test]
+fn byte_strings_of_one_width_are_cut(rt: HostRuntime) -> Result<(), Fail> {
+    // The value bytes are cut with their slots.
+    let bytes = widths_of(2, b"aabbccdd", Some(&[true, false, true, true]));
+    for (plan, values, flags) in CUT_BYTES {
+        assert!(rt;
+            fixed_leads(rt.alloc(), bytes, plan, widths_of(2, values, flags))?,
+            "{values:?}"
+        );
+    }
+    assert!(rt; third_is_left(rt.alloc(), bytes, widths_of(2, b"cc", None))?);
+    Ok(())
+}
+
+const CUT_NUMBERS: [(&[Light], &[i64], Flags<'_>); 6] = [
+    (&[], &[1, -2, 3, -4], Some(&[true, false, true, true])),
+    (&[Left(2)], &[1, -2], Some(&[true, false])),
+    (&[Right(1)], &[-2, 3, -4], Some(&[false, true, true])),
+    (&[Slice(1, 2)], &[-2, 3], Some(&[false, true])),
+    (&[Slice(1, 3), Right(1), Left(1)], &[3], None),
+    (&[Right(4), Left(0)], &[], None),
+];
+
+#[test]
+fn numbers_are_cut(rt: HostRuntime) -> Result<(), Fail> {
+    // The numbers are cut with their slots.
+    let four = numbers_of(&[1, -2, 3, -4], Some(&[true, false, true, true]));
+    for (plan, numbers, flags) in CUT_NUMBERS {
+        assert!(rt;
+            numbers_lead(rt.alloc(), four, plan, numbers_of(numbers, flags))?,
+            "{numbers:?}"
+        );
+    }
+    assert!(rt; third_number_is_left(rt.alloc(), four, numbers_of(&[3], None))?);
+    Ok(())
+}
+
+#[test]
+fn slots_of_one_length_refuse_steps(rt: HostRuntime) -> Result<(), Fail> {
+    let bytes = widths_of(2, b"aabb", None);
+    let two = numbers_of(&[1, -2], None);
+    let far = usize::MAX;
+    let table: [(&[Light], usize, Cause); 7] = [
+        (&[Left(3)], 0, Cause::StepRange),
+        (&[Right(3)], 0, Cause::StepRange),
+        (&[Slice(far, 2)], 0, Cause::StepRange),
+        (&[Right(1), Slice(1, 1)], 1, Cause::StepRange),
+        (&[ToUtf8], 0, Cause::WrongKind),
+        (&[ToBinary, Left(9)], 0, Cause::WrongKind),
+        (&[Left(0), ToUtf8], 1, Cause::WrongKind),
+    ];
+    for (plan, at, cause) in table {
+        let refusal = ColumnError::Step(at, cause);
+        assert!(rt; fixed_refuses(rt.alloc(), bytes, plan, refusal)?, "{at}");
+        assert!(rt; numbers_refuse(rt.alloc(), two, plan, refusal)?, "{at}");
+    }
+    let short = widths_of(3, b"aabb", None);
+    assert!(rt;
+        fixed_refuses(
+            rt.alloc(),
+            short,
+            &[ToUtf8],
+            ColumnError::Parts(Cause::NotMultiple)
+        )?
+    );
+    Ok(())
+}
+
+#[test]
+fn slots_of_one_length_are_not_written_yet(rt: HostRuntime) -> Result<(), Fail> {
+    let bytes = widths_of(8, b"aabbccdd", None);
+    let one = numbers_of(&[1], None);
+    assert!(rt; fixed_is_no_kind(rt.alloc(), bytes, Append(Rows::new(rt.alloc())))?);
+    assert!(rt; numbers_are_no_kind(rt.alloc(), one, Append(Rows::new(rt.alloc())))?);
+    for kind in [
+        Kind::Binary32,
+        Kind::Utf8_64,
+        Kind::BinView,
+        Kind::Fixed(8),
+        Kind::Fixed(0),
+        Kind::Int64,
+    ] {
+        assert!(rt;
+            fixed_is_no_kind(rt.alloc(), bytes, Rebuild(kind))?,
+            "{kind:?}"
+        );
+        assert!(rt;
+            numbers_are_no_kind(rt.alloc(), one, Rebuild(kind))?,
+            "{kind:?}"
+        );
+    }
+    for kind in [Kind::Fixed(1), Kind::Fixed(0), Kind::Int64] {
+        assert!(rt;
+            none_is_rebuilt(rt.alloc(), false, false, three(), kind)?,
+            "{kind:?}"
+        );
+        assert!(rt;
+            none_is_rebuilt(rt.alloc(), true, true, three(), kind)?,
+            "{kind:?}"
+        );
+        assert!(rt; views_refuse(rt.alloc(), true, Rebuild(kind))?, "{kind:?}");
+    }
     Ok(())
 }

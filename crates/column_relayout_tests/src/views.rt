@@ -86,8 +86,8 @@ pub fn views_lead(
     Ok(gives(answer(alloc, text, plan)?, kind, wanted))
 }
 
-// a step that is refused, as the only one, for the kind of column
-fn is_refused(alloc: Global, parts: RawColumn, step: Step) -> bool {
+/// Whether a step, as the only one, is refused for the kind of column.
+pub fn is_refused(alloc: Global, parts: RawColumn, step: Step) -> bool {
     let answer = relayout(alloc, parts, &[step]);
     answer.err() == Some(ColumnError::Step(0, Cause::WrongKind))
 }
@@ -97,8 +97,8 @@ pub fn views_refuse(alloc: Global, text: bool, step: Step) -> Result<bool, Polar
     Ok(is_refused(alloc, view_parts(alloc, text)?, step))
 }
 
-/// Whether no column with offsets is rebuilt with views.
-pub fn no_views_are_rebuilt(
+/// Whether no column with offsets is rebuilt in this kind.
+pub fn none_is_rebuilt(
     alloc: Global,
     large: bool,
     text: bool,

@@ -1,6 +1,5 @@
 -- The room is what the slots leave of the greatest offset.
-use Rattle.std.proofs.Common.{◌≡◌, ◌≤◌, ◌<◌, ◌∙◌, ◌++◌, ◌-◌, map, length, ap, refl, None, Some, subst, arith}
-use Rattle.std.specs.Prelude.{MatchOption}
+use Rattle.std.proofs.Common.{◌≡◌, ◌≤◌, ◌<◌, ◌∙◌, ◌++◌, map, length, ap, refl, arith}
 use Rattle.column_base.proofs.AnswersLemmas.{answers_without}
 use Rattle.column_binary.specs.Slots.{offset_slots}
 use Rattle.column_binary.specs.Rows.{slot_of}

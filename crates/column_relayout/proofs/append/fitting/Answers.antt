@@ -1,5 +1,5 @@
 -- No row is refused, since all fit together.
-use Rattle.std.proofs.Common.{◌≡◌, ◌∙◌, ℕ, List, Option, map, ap, subst, refl, Ok, Err, None}
+use Rattle.std.proofs.Common.{◌≡◌, ◌∙◌, ℕ, List, Option, ap, subst, refl, Ok, Err, None}
 use Rattle.std.specs.Prelude.{option_map}
 use Rattle.std.proofs.lemmas.Result.{err_from_is_err_and}
 use Rattle.column_base.specs.Answers.{Answers}
@@ -7,7 +7,7 @@ use Rattle.column_base.specs.Pushes.{grown, growth_fault}
 use Rattle.column_base.proofs.AnswersLemmas.{answers_err}
 use Rattle.column_base.proofs.PushesLemmas.{by_slice, answers_weaker}
 use Rattle.column_binary.specs.Slots.{offset_slots}
-use Rattle.column_binary.specs.Rows.{row_growth, slot_of}
+use Rattle.column_binary.specs.Rows.{row_growth}
 use Rattle.column_relayout.proofs.WrittenLemmas.{rows_fit, hold_rows, hold_written}
 use Rattle.column_relayout.proofs.append.fitting.Goals as goal
 

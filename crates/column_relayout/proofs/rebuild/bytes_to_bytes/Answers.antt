@@ -1,9 +1,8 @@
 -- The fault is that of the slots together.
-use Rattle.std.proofs.Common.{◌≡◌, ◌∙◌, sym, ap, refl, false, Err}
+use Rattle.std.proofs.Common.{◌∙◌, sym, ap, refl, false, Err}
 use Rattle.std.proofs.lemmas.Result.{err_from_is_err_and}
 use Rattle.column_base.proofs.AnswersLemmas.{answers_first_err}
 use Rattle.column_binary.specs.Slots.{offset_slots}
-use Rattle.column_relayout.specs.Written.{written_slots}
 use Rattle.column_relayout.proofs.StepsLemmas.{rebuild_fault, rebuild_steps}
 use Rattle.column_relayout.proofs.rebuild.bytes_to_bytes.Goals as goal
 

@@ -1,5 +1,5 @@
 -- What the builder holds is written.
-use Rattle.std.proofs.Common.{◌≡◌, ◌∙◌, None, refl}
+use Rattle.std.proofs.Common.{◌∙◌, None, refl}
 use Rattle.column_base.proofs.PushesLemmas.{answers_weaker}
 use Rattle.column_relayout.proofs.WrittenLemmas.{hold_written}
 use Rattle.column_relayout.proofs.rebuild.fitting.Goals as goal

@@ -1,5 +1,5 @@
 -- All is written that fits.
-use Rattle.std.proofs.Common.{◌≡◌, ◌≤◌, arith}
+use Rattle.std.proofs.Common.{◌≤◌, arith}
 use Rattle.column_base.proofs.AnswersLemmas.{answers_without}
 use Rattle.column_binary.specs.Slots.{offset_slots}
 use Rattle.column_relayout.specs.Written.{bytes_in, written_slots}

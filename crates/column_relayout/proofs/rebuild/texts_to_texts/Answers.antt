@@ -1,5 +1,5 @@
 -- The fault is that of the slots together; texts that are written are texts.
-use Rattle.std.proofs.Common.{◌≡◌, ◌∙◌, sym, ap, refl, true, Err}
+use Rattle.std.proofs.Common.{◌∙◌, sym, ap, refl, true, Err}
 use Rattle.std.proofs.lemmas.Result.{err_from_is_err_and}
 use Rattle.column_base.proofs.AnswersLemmas.{answers_first_err}
 use Rattle.column_binary.specs.Slots.{offset_slots}

@@ -1,5 +1,5 @@
 -- Null slots' bytes are taken off one by one, where there are any.
-use Rattle.std.proofs.Common.{◌≡◌, ◌∙◌, sym, ap, length}
+use Rattle.std.proofs.Common.{◌∙◌, sym, ap, length}
 use Rattle.column_binary.specs.Slots.{offset_slots}
 use Rattle.column_relayout.specs.Written.{bytes_in}
 use Rattle.column_relayout.proofs.WrittenLemmas.{length-concat, no_nulls, counts_start}

@@ -1,5 +1,5 @@
 -- A row more is a slot more.
-use Rattle.std.proofs.Common.{◌≡◌, ◌<◌, ◌∙◌, ap, Err, None, length, arith}
+use Rattle.std.proofs.Common.{◌<◌, ◌∙◌, ap, Err, None, length, arith}
 use Rattle.std.specs.Option.{option_copied}
 use Rattle.std.proofs.lemmas.Result.{err_from_is_err_and}
 use Rattle.column_base.proofs.AnswersLemmas.{answers_err}

@@ -1,6 +1,5 @@
 -- Where no bytes lie in null slots, the slots are those that are written.
-use Rattle.std.proofs.Common.{◌≡◌, ◌∙◌, sym, ap, subst, length, arith, None, refl, List}
-use Rattle.column_base.specs.Kinds.{Slot}
+use Rattle.std.proofs.Common.{◌≡◌, ◌∙◌, sym, ap, subst, length, arith, None, refl}
 use Rattle.column_base.proofs.PushesLemmas.{answers_weaker}
 use Rattle.column_binary.specs.Slots.{offset_slots}
 use Rattle.column_relayout.specs.Written.{bytes_in, written_slots, HoldSlots}

@@ -1,5 +1,5 @@
 -- All lengths fit, so all are taken.
-use Rattle.std.proofs.Common.{◌≡◌, ◌∙◌, ap, map, Ok, Err, None}
+use Rattle.std.proofs.Common.{◌∙◌, ap, map, Ok, Err, None}
 use Rattle.std.proofs.lemmas.Result.{err_from_is_err_and}
 use Rattle.column_base.proofs.AnswersLemmas.{answers_err}
 use Rattle.column_offset.specs.Growth.{lengths_of}

@@ -1,12 +1,10 @@
 -- The lists are those of the same slots, and have no fault.
-use Rattle.std.proofs.Common.{◌≡◌, ◌∙◌, ◌∷◌, [], ◌++◌, ℕ, ℤ, Bool, Option, List, pos, sym, ap, subst, refl, arith}
+use Rattle.std.proofs.Common.{◌≡◌, ◌∙◌, ℤ, List, ap, refl, arith}
 use Rattle.std.specs.Prelude.{sum}
-use Rattle.std.specs.List.{concat}
-use Rattle.column_base.specs.Slots.{values_of}
 use Rattle.column_storage.specs.Bits.{bits_given}
-use Rattle.column_offset.specs.Growth.{extended, lengths_of}
-use Rattle.column_binary.specs.Slots.{OffsetLists, offset_lists, offset_slots}
-use Rattle.column_relayout.specs.Written.{bytes_in, HoldSlots}
+use Rattle.column_offset.specs.Growth.{lengths_of}
+use Rattle.column_binary.specs.Slots.{offset_slots}
+use Rattle.column_relayout.specs.Written.{bytes_in}
 use Rattle.column_relayout.proofs.WrittenLemmas.{lengths_are, taken_lists, hold_taken, no_fault_where_full, no_error}
 use Rattle.column_relayout.proofs.written.taken_over.Goals as goal
 

@@ -1,5 +1,5 @@
 -- The bytes lie between the first offset and the last.
-use Rattle.std.proofs.Common.{rules, ◌≡◌, ◌≤◌, ◌∙◌, ℕ, ℤ, List, length, slice_range, sym, ap, arith}
+use Rattle.std.proofs.Common.{rules, ◌≡◌, ◌≤◌, ◌∙◌, ℕ, ℤ, List, length, slice_range, ap, arith}
 use Rattle.column_offset.specs.Offsets.{last_of, offset_at, nat_of}
 use Rattle.column_relayout.proofs.WrittenLemmas.{used_are, used_end, used_order, used_count}
 use Rattle.column_relayout.proofs.written.used_bytes.Goals as goal
