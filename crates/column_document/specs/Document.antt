@@ -5,9 +5,9 @@ use Rattle.std.specs.Str.{bytes_eq}
 use Rattle.serde_json.specs.Data.{Data, null}
 use Rattle.serde_json.specs.Find.{get, as_bool, as_str}
 use Rattle.column_relayout.specs.declared.columns.RawColumn.{RawColumn}
-use Rattle.column_relayout.specs.declared.columns.RawColumn.TheVariants.{Offset32, Offset64, View}
+use Rattle.column_relayout.specs.declared.columns.RawColumn.TheVariants as raw
 use Rattle.column_relayout.specs.declared.kind.Kind.{Kind}
-use Rattle.column_relayout.specs.declared.kind.Kind.TheVariants.{Binary32, Binary64, Utf8_32, Utf8_64, BinView, Utf8View}
+use Rattle.column_relayout.specs.declared.kind.Kind.TheVariants.{Binary32, Binary64, Utf8_32, Utf8_64, BinView, Utf8View, Fixed, Int64}
 use Rattle.column_relayout.specs.declared.steps.Step.{Step}
 use Rattle.column_relayout.specs.Kinds.{kind_of, kind_name}
 use Rattle.column_document.specs.declared.field.Field.{Field}
@@ -20,9 +20,9 @@ use Rattle.column_document.specs.declared.from_json.Unread.{Unread}
 use Rattle.column_document.specs.declared.from_json.Unread.TheVariants as unread
 use Rattle.column_document.specs.Fields.{field_name}
 use Rattle.column_document.specs.Json.{json_of}
-use Rattle.column_document.specs.Values.{list_of, i32_of, i64_of, hex_of, view_of, buffers_of}
+use Rattle.column_document.specs.Values.{list_of, i32_of, i64_of, u64_of, hex_of, view_of, buffers_of}
 use Rattle.column_document.specs.Steps.{step_of}
-use Rattle.column_document.specs.Unbuilt.{has_unbuilt_word}
+use Rattle.column_document.specs.Unbuilt.{has_unbuilt_step}
 
 -- ---- answers
 
@@ -53,9 +53,9 @@ Err fault >>= f = Err fault
 abbrev pub needed : {T : Type 0} → Field → (Data → Option T) → Data → Result T DocFault
 needed field of document = ok_or (option_and_then of (get (field_name field) document)) (BadField field)
 
--- `kind`: the name of a kind that is built
+-- `kind`: the name of a kind, which tells no width
 abbrev pub kind_named : List ℕ → Option Kind
-kind_named word = find (λ kind. bytes_eq word (kind_name (kind_of kind))) (Binary32 ∷ Binary64 ∷ Utf8_32 ∷ Utf8_64 ∷ BinView ∷ Utf8View ∷ [])
+kind_named word = find (λ kind. bytes_eq word (kind_name (kind_of kind))) (Binary32 ∷ Binary64 ∷ Utf8_32 ∷ Utf8_64 ∷ BinView ∷ Utf8View ∷ Fixed 0 ∷ Int64 ∷ [])
 
 -- a JSON string that is such a name
 abbrev pub kind_from : Data → Option Kind
@@ -96,16 +96,33 @@ view_parts text document = do
   views ← needed field.Views (list_of view_of) document
   buffers ← needed field.Buffers buffers_of document
   validity ← validity_of document
-  Ok (View text views buffers validity)
+  Ok (raw.View text views buffers validity)
 
--- the fields that a kind has, as its parts: numbers of 32 or 64 bits, or views, of byte strings or of texts
+-- parts of one width: `values`, `width` and `validity`
+abbrev pub fixed_parts : Data → Result RawColumn DocFault
+fixed_parts document = do
+  values ← needed field.Values hex_of document
+  width ← needed field.Width u64_of document
+  validity ← validity_of document
+  Ok (raw.Fixed width values validity)
+
+-- parts of numbers: `numbers` and `validity`
+abbrev pub number_parts : Data → Result RawColumn DocFault
+number_parts document = do
+  numbers ← needed field.Numbers (list_of i64_of) document
+  validity ← validity_of document
+  Ok (raw.Int64 numbers validity)
+
+-- the fields that a kind has, as its parts
 abbrev pub parts_of : Kind → Data → Result RawColumn DocFault
-parts_of Binary32 document = offset_parts i32_of (Offset32 false) document
-parts_of Binary64 document = offset_parts i64_of (Offset64 false) document
-parts_of Utf8_32 document = offset_parts i32_of (Offset32 true) document
-parts_of Utf8_64 document = offset_parts i64_of (Offset64 true) document
+parts_of Binary32 document = offset_parts i32_of (raw.Offset32 false) document
+parts_of Binary64 document = offset_parts i64_of (raw.Offset64 false) document
+parts_of Utf8_32 document = offset_parts i32_of (raw.Offset32 true) document
+parts_of Utf8_64 document = offset_parts i64_of (raw.Offset64 true) document
 parts_of BinView document = view_parts false document
 parts_of Utf8View document = view_parts true document
+parts_of (Fixed unread) document = fixed_parts document
+parts_of Int64 document = number_parts document
 
 -- raw parts of a column, and the steps to take
 pub record Document : Type 0 where
@@ -126,7 +143,7 @@ fields_of value = do
 
 -- What a JSON value says. A word that is not built yet comes before all else.
 unfoldable pub document_of : Data → Result Document DocFault
-document_of value = if has_unbuilt_word value then Err Unbuilt else fields_of value
+document_of value = if has_unbuilt_step value then Err Unbuilt else fields_of value
 
 -- What bytes say. Those that are no JSON say nothing else.
 unfoldable pub document_in : List ℕ → Result Document DocFault

@@ -1,15 +1,11 @@
 -- Words of documents that are not built yet: this library's own.
 --
--- They are looked at before anything else: in `kind`, and in the first element of every array in `plan`, whatever
--- else the document has. The other elements of a plan, and a plan that is no array, count for nothing here.
+-- They are looked at before anything else, in the first element of every array in `plan`, whatever else the document has.
+-- The other elements of a plan, and a plan that is no array, count for nothing here.
 use Rattle.std.specs.Prelude.{ℕ, Bool, false, ◌||◌, List, codes, Option, None, Some, option_and_then}
 use Rattle.std.specs.Str.{bytes_eq}
 use Rattle.serde_json.specs.Data.{Data, Items, no_items, item}
 use Rattle.serde_json.specs.Find.{get, at, as_str, as_array}
-
--- a kind of column that is not built yet
-abbrev pub is_unbuilt_kind : List ℕ → Bool
-is_unbuilt_kind word = bytes_eq word (codes "fixed") || bytes_eq word (codes "int64")
 
 -- a step that is not built yet
 abbrev pub is_unbuilt_step : List ℕ → Bool
@@ -31,14 +27,6 @@ abbrev pub has_unbuilt_element : Items → Bool
 has_unbuilt_element no_items = false
 has_unbuilt_element (item element rest) = is_unbuilt_element element || has_unbuilt_element rest
 
--- such a kind under `kind`
-abbrev pub has_unbuilt_kind : Data → Bool
-has_unbuilt_kind document = holds is_unbuilt_kind (option_and_then as_str (get (codes "kind") document))
-
 -- such an array in the plan
 abbrev pub has_unbuilt_step : Data → Bool
 has_unbuilt_step document = holds has_unbuilt_element (option_and_then as_array (get (codes "plan") document))
-
--- a word of either sort
-abbrev pub has_unbuilt_word : Data → Bool
-has_unbuilt_word document = has_unbuilt_kind document || has_unbuilt_step document

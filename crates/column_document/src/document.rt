@@ -2,13 +2,13 @@
 
 ghost use Rattle.std.specs.Prelude.{◌≡◌, ◌≢◌};
 ghost use Rattle.serde_json.specs.View.{view};
-ghost use Rattle.column_document.specs.Document.{ReadsFields, ReadsFieldsAs, error_at, needed, kind_from, validity_of, plan_of, parts_of, offset_parts, view_parts, document, document_of, document_in};
+ghost use Rattle.column_document.specs.Document.{ReadsFields, ReadsFieldsAs, error_at, needed, kind_from, validity_of, plan_of, parts_of, offset_parts, view_parts, fixed_parts, number_parts, document, document_of, document_in};
 
 use crate::field::{DocError, DocFault, Field};
 use crate::from_json::{FromJson, Unread, read_list};
 use crate::json::parse;
 use crate::offset_number::OffsetNumber;
-use crate::unbuilt::has_unbuilt_word;
+use crate::unbuilt::has_unbuilt_step;
 use column_relayout::{Kind, RawColumn, Step};
 use column_storage::Bitmap;
 use serde_json::Value;
@@ -32,17 +32,20 @@ pub fn parse_document(alloc: Global, bytes: Vec<u8>) -> Result<(RawColumn, Vec<S
 /// The raw parts and the plan of a document.
 ///
 /// The fields, in the order in which they are read; other fields are ignored:
-/// - `kind`: `binary32`, `binary64`, `utf8_32`, `utf8_64`, `binview` or `utf8view`; the kinds with `utf8` give texts.
+/// - `kind`: `binary32`, `binary64`, `utf8_32`, `utf8_64`, `binview`, `utf8view`, `fixed` or `int64`; the kinds with
+///   `utf8` give texts.
 /// - `offsets`, of a kind with offsets: whole numbers, within `i32` or `i64` by the kind.
-/// - `values`, of a kind with offsets: bytes, as hexadecimal digits in pairs, in either case.
+/// - `values`, of a kind with offsets and of `fixed`: bytes, as hexadecimal digits in pairs, in either case.
+/// - `width`, of `fixed`: a whole number of bytes from 0 to 2^64 - 1.
 /// - `views`, of a kind with views: texts of 32 hexadecimal digits, the 16 bytes of a view.
 /// - `buffers`, of a kind with views: at most 2,147,483,647 texts of hexadecimal digits in pairs.
+/// - `numbers`, of `int64`: whole numbers within `i64`.
 /// - `validity`: missing, null, or a flag for each slot, where true is valid.
 /// - `plan`: missing, or steps: `["slice", first, count]`, `["left", count]`, `["right", first]`, `["to_utf8"]` and
 ///   `["to_binary"]`. The numbers count slots, and are whole numbers from 0 to 2^64 - 1.
 ///
-/// `Unbuilt` where the kind or the first element of an array in the plan is a word that is not built yet, whatever
-/// else the document has. Or else `BadField` with the first field that is missing or bad. `Json` never comes.
+/// `Unbuilt` where the first element of an array in the plan is a word that is not built yet, whatever else the document
+/// has. Or else `BadField` with the first field that is missing or bad. `Json` never comes.
 /// `NoMemory` may come where a growth finds none.
 ///
 /// Takes time and memory by the length of the fields that are read; each list is decoded once, into its own memory.
@@ -51,7 +54,7 @@ pub fn read_document(alloc: Global, value: &Value) -> Result<(RawColumn, Vec<Ste
     ensures said { ReadsFieldsAs (λ read. document read.0 read.1.items) result (document_of (view value.now)) }
     ensures parsed { document_of (view value.now) ≢ Err DocFault.Json }
 {
-    if has_unbuilt_word(value) {
+    if has_unbuilt_step(value) {
         return Err(DocFault::Unbuilt.into());
     }
     let kind = needed(alloc, value, Field::Kind)?;
@@ -70,6 +73,8 @@ fn read_parts(alloc: Global, document: &Value, kind: Kind) -> Result<RawColumn, 
         Kind::Utf8_64 => read_offset_parts::<i64>(alloc, document, true),
         Kind::BinView => read_view_parts(alloc, document, false),
         Kind::Utf8View => read_view_parts(alloc, document, true),
+        Kind::Fixed(_) => read_fixed_parts(alloc, document),
+        Kind::Int64 => read_number_parts(alloc, document),
     }
 }
 
@@ -86,6 +91,29 @@ fn read_view_parts(alloc: Global, document: &Value, text: bool) -> Result<RawCol
         buffers,
         validity,
     })
+}
+
+/// The parts of byte strings of one width.
+fn read_fixed_parts(alloc: Global, document: &Value) -> Result<RawColumn, DocError>
+    ensures { ReadsFields result (fixed_parts (view document.now)) }
+{
+    let values = needed(alloc, document, Field::Values)?;
+    let width = needed(alloc, document, Field::Width)?;
+    let validity = read_validity(alloc, document)?;
+    Ok(RawColumn::Fixed {
+        width,
+        values,
+        validity,
+    })
+}
+
+/// The parts of numbers.
+fn read_number_parts(alloc: Global, document: &Value) -> Result<RawColumn, DocError>
+    ensures { ReadsFields result (number_parts (view document.now)) }
+{
+    let numbers = needed(alloc, document, Field::Numbers)?;
+    let validity = read_validity(alloc, document)?;
+    Ok(RawColumn::Int64 { numbers, validity })
 }
 
 /// The parts of a kind with offsets.
@@ -162,6 +190,8 @@ impl FromJson for Kind {
             Some("utf8_64") => Ok(Kind::Utf8_64),
             Some("binview") => Ok(Kind::BinView),
             Some("utf8view") => Ok(Kind::Utf8View),
+            Some("fixed") => Ok(Kind::Fixed(0)),
+            Some("int64") => Ok(Kind::Int64),
             _ => Err(Unread::Bad),
         }
     }

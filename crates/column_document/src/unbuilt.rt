@@ -4,29 +4,14 @@ ghost use Rattle.std.specs.Prelude.{◌≡◌, option_map};
 ghost use Rattle.serde_json.specs.Data.{Data};
 ghost use Rattle.serde_json.specs.Find.{get};
 ghost use Rattle.serde_json.specs.View.{view, items_view};
-ghost use Rattle.column_document.specs.Unbuilt.{is_unbuilt_kind, is_unbuilt_step, is_unbuilt_element, has_unbuilt_element, has_unbuilt_kind, has_unbuilt_step, has_unbuilt_word};
+ghost use Rattle.column_document.specs.Unbuilt.{is_unbuilt_step, is_unbuilt_element, has_unbuilt_element, has_unbuilt_step};
 
 use serde_json::Value;
 
-/// Whether the kind, or the first element of an array in the plan, is a word that is not built yet.
+/// Whether the first element of an array in the plan is a word that is not built yet.
 ///
 /// Nothing else of the document is looked at.
-pub(crate) fn has_unbuilt_word(document: &Value) -> bool
-    ensures { result ≡ has_unbuilt_word (view document.now) }
-{
-    has_unbuilt_kind(document) || has_unbuilt_step(document)
-}
-
-fn has_unbuilt_kind(document: &Value) -> bool
-    ensures { result ≡ has_unbuilt_kind (view document.now) }
-{
-    match document.get("kind").and_then(Value::as_str) {
-        Some(word) => is_unbuilt_kind(word),
-        None => false,
-    }
-}
-
-fn has_unbuilt_step(document: &Value) -> bool
+pub(crate) fn has_unbuilt_step(document: &Value) -> bool
     ensures { result ≡ has_unbuilt_step (view document.now) }
 {
     match document.get("plan").and_then(Value::as_array) {
@@ -53,12 +38,6 @@ fn is_unbuilt_element(element: &Value) -> bool
         Some(word) => is_unbuilt_step(word),
         None => false,
     }
-}
-
-fn is_unbuilt_kind(word: &str) -> bool
-    ensures { result ≡ is_unbuilt_kind word.now }
-{
-    matches!(word, "fixed" | "int64")
 }
 
 fn is_unbuilt_step(word: &str) -> bool

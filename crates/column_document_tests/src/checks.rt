@@ -202,11 +202,53 @@ pub fn view_document_is_read(alloc: Global, kind: &str, texts: bool) -> Result<b
     })
 }
 
+fn fixed_parts_are(parts: &RawColumn) -> bool {
+    match parts {
+        RawColumn::Fixed {
+            width,
+            values,
+            validity,
+        } => *width == usize::MAX && has_bytes_and_flags(values, validity),
+        _ => false,
+    }
+}
+
+/// The greatest width, four bytes and two flags.
+pub fn fixed_document_is_read(alloc: Global) -> bool {
+    let document =
+        br#"{"width":18446744073709551615,"kind":"fixed","values":"61C3a9Ff","validity":[true,false]}"#;
+    match parsed(alloc, document) {
+        Ok((parts, plan)) => plan.is_empty() && fixed_parts_are(&parts),
+        Err(_) => false,
+    }
+}
+
+fn number_parts_are(parts: &RawColumn) -> bool {
+    match parts {
+        RawColumn::Int64 { numbers, validity } => {
+            numbers.as_slice() == [i64::MIN, -1, i64::MAX].as_slice() && validity.is_none()
+        }
+        _ => false,
+    }
+}
+
+/// Numbers at both ends of their type, and a plan of one step.
+pub fn number_document_is_read(alloc: Global) -> bool {
+    let document =
+        br#"{"numbers":[-9223372036854775808,-1,9223372036854775807],"kind":"int64","plan":[["left",2]]}"#;
+    match parsed(alloc, document) {
+        Ok((parts, plan)) => are_steps(&plan, &[Step::Left(2)]) && number_parts_are(&parts),
+        Err(_) => false,
+    }
+}
+
 fn has_no_flags(parts: &RawColumn) -> bool {
     match parts {
         RawColumn::Offset32 { validity, .. }
         | RawColumn::Offset64 { validity, .. }
-        | RawColumn::View { validity, .. } => validity.is_none(),
+        | RawColumn::View { validity, .. }
+        | RawColumn::Fixed { validity, .. }
+        | RawColumn::Int64 { validity, .. } => validity.is_none(),
     }
 }
 

@@ -1,102 +1,122 @@
 //! The tests: each asserts what a check of `checks` says.
 
 use crate::checks::{
-    fault_is, field_is_named, long_document_is_read, no_flags_are_none,
-    no_flags_are_none_in_the_value, offset_fits, plan_is, plan_is_bad, short_document_is_read,
-    view_document_is_read,
+    fault_is, field_is_named, fixed_document_is_read, long_document_is_read, no_flags_are_none,
+    no_flags_are_none_in_the_value, number_document_is_read, offset_fits, plan_is, plan_is_bad,
+    short_document_is_read, view_document_is_read,
 };
 use column_document::{DocFault, Field};
 use column_relayout::Step;
 use std::test::Fail;
 
+const FAULTS: [(&[u8], DocFault); 29] = [
+    (b"{", DocFault::Json),
+    (b"", DocFault::Json),
+    (b"\xff", DocFault::Json),
+    (b"{\"kind\":\"binary32\xc3\"}", DocFault::Json),
+    (b"{}", DocFault::BadField(Field::Kind)),
+    (b"[]", DocFault::BadField(Field::Kind)),
+    (br#"{"kind":"binary33"}"#, DocFault::BadField(Field::Kind)),
+    (br#"{"kind":"Utf8_32"}"#, DocFault::BadField(Field::Kind)),
+    (br#"{"kind":"binview"}"#, DocFault::BadField(Field::Views)),
+    (
+        br#"{"kind":"utf8view","views":"","buffers":[]}"#,
+        DocFault::BadField(Field::Views),
+    ),
+    (
+        br#"{"kind":"binview","views":["000000000000000000000000000000000"],"buffers":1}"#,
+        DocFault::BadField(Field::Views),
+    ),
+    (
+        br#"{"kind":"binview","views":["0000000000000000000000000000000g"],"buffers":[]}"#,
+        DocFault::BadField(Field::Views),
+    ),
+    (
+        br#"{"kind":"binview","views":[null],"buffers":[]}"#,
+        DocFault::BadField(Field::Views),
+    ),
+    (
+        br#"{"kind":"utf8view","views":["00000000000000000000000000000000"]}"#,
+        DocFault::BadField(Field::Buffers),
+    ),
+    (
+        br#"{"kind":"utf8view","views":[],"buffers":["00","0"],"validity":1}"#,
+        DocFault::BadField(Field::Buffers),
+    ),
+    (
+        br#"{"kind":"utf8view","views":[],"buffers":[],"validity":1}"#,
+        DocFault::BadField(Field::Validity),
+    ),
+    (
+        br#"{"kind":"fixed","kind":"utf8_64"}"#,
+        DocFault::BadField(Field::Offsets),
+    ),
+    (br#"{"kind":"fixed"}"#, DocFault::BadField(Field::Values)),
+    (
+        br#"{"kind":"fixed","values":"00","validity":1}"#,
+        DocFault::BadField(Field::Width),
+    ),
+    (
+        br#"{"kind":"fixed","values":"00","width":18446744073709551616}"#,
+        DocFault::BadField(Field::Width),
+    ),
+    (
+        br#"{"kind":"fixed","values":"00","width":-1}"#,
+        DocFault::BadField(Field::Width),
+    ),
+    (
+        br#"{"kind":"int64","offsets":[0],"values":"","validity":1}"#,
+        DocFault::BadField(Field::Numbers),
+    ),
+    (
+        br#"{"kind":"int64","numbers":[0,9223372036854775808]}"#,
+        DocFault::BadField(Field::Numbers),
+    ),
+    (
+        br#"{"plan":[["widen"],"gc",{"gc":1},["left",1]]}"#,
+        DocFault::BadField(Field::Kind),
+    ),
+    (
+        br#"{"kind":"binary64","offsets":[0,1.5],"values":1}"#,
+        DocFault::BadField(Field::Offsets),
+    ),
+    (
+        br#"{"kind":"utf8_64","offsets":["0"],"values":""}"#,
+        DocFault::BadField(Field::Offsets),
+    ),
+    (
+        br#"{"kind":"utf8_32","offsets":[0],"values":"abc"}"#,
+        DocFault::BadField(Field::Values),
+    ),
+    (
+        br#"{"kind":"utf8_64","offsets":[0],"values":"","validity":1,"plan":null}"#,
+        DocFault::BadField(Field::Validity),
+    ),
+    (
+        br#"{"kind":"binary64","offsets":[0],"values":"","plan":null}"#,
+        DocFault::BadField(Field::Plan),
+    ),
+];
+
 #[test]
 fn the_first_fault_is_told(rt: HostRuntime) {
-    let table: [(&[u8], DocFault); 23] = [
-        (b"{", DocFault::Json),
-        (b"", DocFault::Json),
-        (b"\xff", DocFault::Json),
-        (b"{\"kind\":\"binary32\xc3\"}", DocFault::Json),
-        (b"{}", DocFault::BadField(Field::Kind)),
-        (b"[]", DocFault::BadField(Field::Kind)),
-        (br#"{"kind":"binary33"}"#, DocFault::BadField(Field::Kind)),
-        (br#"{"kind":"Utf8_32"}"#, DocFault::BadField(Field::Kind)),
-        (br#"{"kind":"binview"}"#, DocFault::BadField(Field::Views)),
-        (
-            br#"{"kind":"utf8view","views":"","buffers":[]}"#,
-            DocFault::BadField(Field::Views),
-        ),
-        (
-            br#"{"kind":"binview","views":["000000000000000000000000000000000"],"buffers":1}"#,
-            DocFault::BadField(Field::Views),
-        ),
-        (
-            br#"{"kind":"binview","views":["0000000000000000000000000000000g"],"buffers":[]}"#,
-            DocFault::BadField(Field::Views),
-        ),
-        (
-            br#"{"kind":"binview","views":[null],"buffers":[]}"#,
-            DocFault::BadField(Field::Views),
-        ),
-        (
-            br#"{"kind":"utf8view","views":["00000000000000000000000000000000"]}"#,
-            DocFault::BadField(Field::Buffers),
-        ),
-        (
-            br#"{"kind":"utf8view","views":[],"buffers":["00","0"],"validity":1}"#,
-            DocFault::BadField(Field::Buffers),
-        ),
-        (
-            br#"{"kind":"utf8view","views":[],"buffers":[],"validity":1}"#,
-            DocFault::BadField(Field::Validity),
-        ),
-        (
-            br#"{"kind":"fixed","kind":"utf8_64"}"#,
-            DocFault::BadField(Field::Offsets),
-        ),
-        (
-            br#"{"plan":[["widen"],"gc",{"gc":1},["left",1]]}"#,
-            DocFault::BadField(Field::Kind),
-        ),
-        (
-            br#"{"kind":"binary64","offsets":[0,1.5],"values":1}"#,
-            DocFault::BadField(Field::Offsets),
-        ),
-        (
-            br#"{"kind":"utf8_64","offsets":["0"],"values":""}"#,
-            DocFault::BadField(Field::Offsets),
-        ),
-        (
-            br#"{"kind":"utf8_32","offsets":[0],"values":"abc"}"#,
-            DocFault::BadField(Field::Values),
-        ),
-        (
-            br#"{"kind":"utf8_64","offsets":[0],"values":"","validity":1,"plan":null}"#,
-            DocFault::BadField(Field::Validity),
-        ),
-        (
-            br#"{"kind":"binary64","offsets":[0],"values":"","plan":null}"#,
-            DocFault::BadField(Field::Plan),
-        ),
-    ];
-    for (document, fault) in table {
+    for (document, fault) in FAULTS {
         assert!(rt; fault_is(rt.alloc(), document, fault), "{document:?}");
     }
 }
 
+const UNBUILT: [&[u8]; 6] = [
+    br#"{"kind":"fixed","plan":[["gc"]]}"#,
+    br#"{"plan":[["gc"]]}"#,
+    br#"{"kind":7,"plan":[7,["turn"],["dedupe",1,2]]}"#,
+    br#"{"kind":"binary64","offsets":[9223372036854775808],"plan":[["append"]]}"#,
+    br#"{"kind":"utf8_32","offsets":[0],"values":"","plan":[["rebuild","int64",8]]}"#,
+    br#"{"kind":"utf8_64","offsets":[0],"values":"","plan":[["left"],["to_utf8",1],["gc"]]}"#,
+];
+
 #[test]
 fn words_that_are_not_built_come_first(rt: HostRuntime) {
-    let table: [&[u8]; 9] = [
-        br#"{"kind":"fixed"}"#,
-        br#"{"kind":"int64","offsets":[1.5]}"#,
-        br#"{"kind":"fixed","plan":null}"#,
-        br#"{"kind":"int64","plan":[["turn"]]}"#,
-        br#"{"plan":[["gc"]]}"#,
-        br#"{"kind":7,"plan":[7,["turn"],["dedupe",1,2]]}"#,
-        br#"{"kind":"binary64","offsets":[9223372036854775808],"plan":[["append"]]}"#,
-        br#"{"kind":"utf8_32","offsets":[0],"values":"","plan":[["rebuild","int64",8]]}"#,
-        br#"{"kind":"utf8_64","offsets":[0],"values":"","plan":[["left"],["to_utf8",1],["gc"]]}"#,
-    ];
-    for document in table {
+    for document in UNBUILT {
         assert!(rt;
             fault_is(rt.alloc(), document, DocFault::Unbuilt),
             "{document:?}"
@@ -104,23 +124,24 @@ fn words_that_are_not_built_come_first(rt: HostRuntime) {
     }
 }
 
+const OFFSETS: [(&str, bool, bool); 12] = [
+    ("-2147483649", true, false),
+    ("-2147483648", true, true),
+    ("2147483647", true, true),
+    ("2147483648", true, false),
+    ("-9223372036854775809", false, false),
+    ("-9223372036854775808", true, false),
+    ("9223372036854775807", true, false),
+    ("9223372036854775808", false, false),
+    ("18446744073709551615", false, false),
+    ("1.0", false, false),
+    ("-0", false, false),
+    ("true", false, false),
+];
+
 #[test]
 fn offsets_are_within_their_type(rt: HostRuntime) -> Result<(), Fail> {
-    let table = [
-        ("-2147483649", true, false),
-        ("-2147483648", true, true),
-        ("2147483647", true, true),
-        ("2147483648", true, false),
-        ("-9223372036854775809", false, false),
-        ("-9223372036854775808", true, false),
-        ("9223372036854775807", true, false),
-        ("9223372036854775808", false, false),
-        ("18446744073709551615", false, false),
-        ("1.0", false, false),
-        ("-0", false, false),
-        ("true", false, false),
-    ];
-    for (offset, long, short) in table {
+    for (offset, long, short) in OFFSETS {
         assert!(rt; offset_fits(rt.alloc(), offset, long, short)?, "{offset}");
     }
     Ok(())
@@ -154,39 +175,40 @@ fn a_step_has_its_arguments(rt: HostRuntime) -> Result<(), Fail> {
     Ok(())
 }
 
+const BAD_STEPS: [&str; 28] = [
+    "[]",
+    "[1]",
+    r#""left""#,
+    r#"["turn"]"#,
+    r#"["Left",1]"#,
+    r#"["slice",0]"#,
+    r#"["slice",0,1,2]"#,
+    r#"["slice",-1,0]"#,
+    r#"["slice",0,1.5]"#,
+    r#"["slice",0,18446744073709551616]"#,
+    r#"["slice","0",1]"#,
+    r#"["slice",0,-0]"#,
+    r#"["left"]"#,
+    r#"["left",1,2]"#,
+    r#"["left",-1]"#,
+    r#"["left",1.5]"#,
+    r#"["left",18446744073709551616]"#,
+    r#"["left","1"]"#,
+    r#"["right"]"#,
+    r#"["right",1,2]"#,
+    r#"["right",-1]"#,
+    r#"["right",1.5]"#,
+    r#"["right",18446744073709551616]"#,
+    r#"["right","1"]"#,
+    r#"["to_utf8",1]"#,
+    r#"["to_utf8",null]"#,
+    r#"["to_binary",1]"#,
+    r#"["to_binary","0"]"#,
+];
+
 #[test]
 fn other_elements_make_the_plan_bad(rt: HostRuntime) -> Result<(), Fail> {
-    let table = [
-        "[]",
-        "[1]",
-        r#""left""#,
-        r#"["turn"]"#,
-        r#"["Left",1]"#,
-        r#"["slice",0]"#,
-        r#"["slice",0,1,2]"#,
-        r#"["slice",-1,0]"#,
-        r#"["slice",0,1.5]"#,
-        r#"["slice",0,18446744073709551616]"#,
-        r#"["slice","0",1]"#,
-        r#"["slice",0,-0]"#,
-        r#"["left"]"#,
-        r#"["left",1,2]"#,
-        r#"["left",-1]"#,
-        r#"["left",1.5]"#,
-        r#"["left",18446744073709551616]"#,
-        r#"["left","1"]"#,
-        r#"["right"]"#,
-        r#"["right",1,2]"#,
-        r#"["right",-1]"#,
-        r#"["right",1.5]"#,
-        r#"["right",18446744073709551616]"#,
-        r#"["right","1"]"#,
-        r#"["to_utf8",1]"#,
-        r#"["to_utf8",null]"#,
-        r#"["to_binary",1]"#,
-        r#"["to_binary","0"]"#,
-    ];
-    for element in table {
+    for element in BAD_STEPS {
         assert!(rt; plan_is_bad(rt.alloc(), element)?, "{element}");
     }
     Ok(())
@@ -200,6 +222,7 @@ fn a_document_of_each_kind_gives_its_lists(rt: HostRuntime) -> Result<(), Fail> 
     assert!(rt; long_document_is_read(rt.alloc(), "utf8_64", true)?);
     assert!(rt; view_document_is_read(rt.alloc(), "binview", false)?);
     assert!(rt; view_document_is_read(rt.alloc(), "utf8view", true)?);
+    assert!(rt; fixed_document_is_read(rt.alloc()) && number_document_is_read(rt.alloc()));
     Ok(())
 }
 
@@ -212,20 +235,21 @@ fn flags_that_are_not_given_are_none(rt: HostRuntime) {
     assert!(rt; no_flags_are_none_in_the_value(rt.alloc(), null));
 }
 
+const FIELDS: [(Field, &str); 9] = [
+    (Field::Kind, "kind"),
+    (Field::Offsets, "offsets"),
+    (Field::Values, "values"),
+    (Field::Width, "width"),
+    (Field::Views, "views"),
+    (Field::Buffers, "buffers"),
+    (Field::Numbers, "numbers"),
+    (Field::Validity, "validity"),
+    (Field::Plan, "plan"),
+];
+
 #[test]
 fn fields_have_their_words(rt: HostRuntime) {
-    let table = [
-        (Field::Kind, "kind"),
-        (Field::Offsets, "offsets"),
-        (Field::Values, "values"),
-        (Field::Width, "width"),
-        (Field::Views, "views"),
-        (Field::Buffers, "buffers"),
-        (Field::Numbers, "numbers"),
-        (Field::Validity, "validity"),
-        (Field::Plan, "plan"),
-    ];
-    for (field, name) in table {
+    for (field, name) in FIELDS {
         assert!(rt; field_is_named(field, name), "{name}");
     }
 }

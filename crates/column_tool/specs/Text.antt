@@ -13,7 +13,9 @@ use Rattle.column_document.specs.Fields.{field_name}
 use Rattle.column_relayout.specs.Kinds.{kind_name}
 use Rattle.column_binary.specs.Slots.{OffsetLists}
 use Rattle.column_binview.specs.Slots.{ViewLists}
-use Rattle.column_relayout.specs.Columns.{RawLists, offset_column, view_column, column_kind, slots_of}
+use Rattle.column_fixed.specs.Slots.{FixedLists}
+use Rattle.column_primitive.specs.Numbers.{NumberLists}
+use Rattle.column_relayout.specs.Columns.{RawLists, offset_column, view_column, fixed_column, number_column, column_kind, slots_of}
 
 -- ---- a column
 
@@ -39,22 +41,32 @@ abbrev pub numbers_text : List ℤ → List ℕ
 numbers_text [] = []
 numbers_text (n ∷ ns) = signed_decimal n ++ flat_map after_comma ns
 
--- the lists of a column with offsets
-abbrev pub offset_text : OffsetLists → List ℕ
-offset_text lists = codes "offsets=" ++ numbers_text lists.offsets ++ codes "\nvalues=" ++ encode_lower lists.values ++ codes "\n"
-
 -- a list of bytes under its name
 abbrev pub named_line : List ℕ → List ℕ → List ℕ
 named_line name bytes = name ++ encode_lower bytes ++ codes "\n"
+
+-- the lists of a column with offsets: the offsets, and the value bytes
+abbrev pub offset_text : OffsetLists → List ℕ
+offset_text lists = codes "offsets=" ++ numbers_text lists.offsets ++ codes "\n" ++ named_line (codes "values=") lists.values
 
 -- the lists of a column with views: each view, and each buffer
 abbrev pub view_text : ViewLists → List ℕ
 view_text lists = flat_map (named_line (codes "view=")) lists.views ++ flat_map (named_line (codes "buffer=")) lists.buffers
 
+-- the lists of a column of byte strings of one width: the width, and the value bytes
+abbrev pub fixed_text : FixedLists → List ℕ
+fixed_text lists = codes "width=" ++ decimal lists.width ++ codes "\n" ++ named_line (codes "values=") lists.values
+
+-- the lists of a column of numbers
+abbrev pub number_text : NumberLists ℤ → List ℕ
+number_text lists = codes "numbers=" ++ numbers_text lists.numbers ++ codes "\n"
+
 -- the lists of a column
 abbrev pub lists_text : RawLists → List ℕ
 lists_text (offset_column large text lists) = offset_text lists
 lists_text (view_column text lists) = view_text lists
+lists_text (fixed_column lists) = fixed_text lists
+lists_text (number_column array) = number_text array.lists
 
 -- a column whole
 unfoldable pub printed : RawLists → List ℕ

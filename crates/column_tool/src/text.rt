@@ -5,26 +5,32 @@ ghost use Rattle.std.specs.List.{flat_map};
 ghost use Rattle.std.specs.Fmt.{signed_decimal};
 ghost use Rattle.hex.specs.Hex.{encode_lower};
 ghost use Rattle.column_base.specs.Answers.{Answers};
+ghost use Rattle.std.specs.Int.{w64};
 ghost use Rattle.column_base.specs.Kinds.{ColumnKind};
+ghost use Rattle.column_base.specs.Native.{signed_bytes};
+ghost use Rattle.column_fixed.specs.Slots.{fixed_slots};
+ghost use Rattle.column_primitive.specs.Numbers.{number_slots};
 ghost use Rattle.column_base.specs.Slots.{slot_at};
 ghost use Rattle.column_binview.specs.Slots.{view_slots};
 ghost use Rattle.column_relayout.specs.Kinds.{kind_of};
 ghost use Rattle.column_binary.specs.Slots.{offset_slots};
 ghost use Rattle.column_relayout.specs.Arrays.{lists_of};
 ghost use Rattle.column_base.specs.Errors.{name_of};
-ghost use Rattle.column_tool.specs.Text.{printed, printed_head, slot_line, sign_of, after_comma, numbers_text, offset_text, named_line, view_text, refusal_line, fault_line};
+ghost use Rattle.column_tool.specs.Text.{printed, printed_head, slot_line, sign_of, after_comma, numbers_text, offset_text, named_line, view_text, fixed_text, number_text, refusal_line, fault_line};
 
 use column_base::{Cause, Offset, PolarsError, ViewKind};
 use column_binary::BinaryArray;
 use column_binview::BinaryViewArrayGeneric;
 use column_document::DocFault;
+use column_fixed::FixedSizeBinaryArray;
+use column_primitive::{Int64Array, slot_is_number};
 use column_relayout::{AnyArray, ColumnError, Kind};
 use column_storage::DataBuffers;
 use column_view::View;
 use itoa::Integer;
 use std::alloc::{AllocError, Global};
 
-/// Offsets as they are printed: as whole numbers in decimal.
+/// Numbers of the types of offsets as they are printed: in decimal.
 trait PrintedOffset: Offset + Integer {
     ghost use Rattle.std.specs.Prelude.{◌≡◌};
     ghost use Rattle.std.specs.Fmt.{signed_decimal};
@@ -44,11 +50,18 @@ impl PrintedOffset for i64 {
     ghost is_decimal = { λ n. refl };
 }
 
-fn append_hex(alloc: Global, text: &mut Vec<u8>, bytes: &[u8]) -> Result<(), AllocError>
+fn append_hex(text: &mut Vec<u8>, bytes: &[u8]) -> Result<(), AllocError>
     ensures { OnOk result (text.new.items ≡ text.old.items ++ encode_lower bytes.now) }
 {
-    let digits = hex::encode(alloc, bytes)?;
-    text.extend_from_slice(digits.as_bytes())
+    let start = text.len();
+    let Some(end) = start.checked_add(2 * bytes.len()) else {
+        return Err(AllocError);
+    };
+    text.resize(end, 0)?;
+    match hex::encode_to_slice(bytes, &mut text[start..]) {
+        Ok(()) => Ok(()),
+        Err(_) => unreachable!(),
+    }
 }
 
 fn append_number<N: Integer>(text: &mut Vec<u8>, number: N) -> Result<(), AllocError>
@@ -57,113 +70,191 @@ fn append_number<N: Integer>(text: &mut Vec<u8>, number: N) -> Result<(), AllocE
     text.extend_from_slice(itoa::Buffer::new().format(number).as_bytes())
 }
 
-fn append_slot(
-    alloc: Global,
-    text: &mut Vec<u8>,
-    valid: bool,
-    bytes: &[u8],
-) -> Result<(), AllocError>
+fn append_slot(text: &mut Vec<u8>, valid: bool, bytes: &[u8]) -> Result<(), AllocError>
     ensures { OnOk result (text.new.items ≡ text.old.items ++ (sign_of valid ++ encode_lower bytes.now ++ codes "\n")) }
 {
     text.push(if valid { b'+' } else { b'-' })?;
-    append_hex(alloc, text, bytes)?;
+    append_hex(text, bytes)?;
     text.push(b'\n')?;
     Ok(())
 }
 
-/// Arrays as their slots are printed.
-trait Slotted {
-    ghost use Rattle.std.specs.Prelude.{List};
+// ---- columns
+
+/// Arrays as they are printed.
+trait Printed {
+    ghost use Rattle.std.specs.Prelude.{ℕ, List};
     ghost use Rattle.column_base.specs.Kinds.{Slot};
 
     ghost slots: { Self → List Slot };
+
+    // the lists, as text
+    ghost lists: { Self → List ℕ };
 
     /// The number of slots.
     fn count(&self) -> usize
         ensures { result ≡ list_length (slots self.now) };
 
-    /// Whether slot `i` is valid.
-    fn is_valid_at(&self, i: usize) -> bool
+    /// Adds the line of slot `i`. A null slot has bytes too.
+    fn append_slot_at(&self, text: &mut Vec<u8>, i: usize) -> Result<(), AllocError>
         requires { i < list_length (slots self.now) }
-        ensures { result ≡ (slot_at (slots self.now) i).valid };
+        ensures { OnOk result (text.new.items ≡ text.old.items ++ slot_line (slot_at (slots self.now) i)) };
 
-    /// The bytes of slot `i`; a null slot has bytes too.
-    fn bytes_at(&self, i: usize) -> &[u8]
-        requires { i < list_length (slots self.now) }
-        ensures { result.now ≡ (slot_at (slots self.now) i).bytes };
+    /// Adds the lines of the lists.
+    fn append_lists(&self, text: &mut Vec<u8>) -> Result<(), AllocError>
+        ensures { OnOk result (text.new.items ≡ text.old.items ++ lists self.now) };
 }
 
-impl<O: Offset> Slotted for BinaryArray<O> {
+impl<O: PrintedOffset> Printed for BinaryArray<O> {
     ghost slots = { offset_slots };
 
+    ghost lists = { offset_text };
+
     fn count(&self) -> usize {
         self.len()
     }
 
-    fn is_valid_at(&self, i: usize) -> bool {
+    fn append_slot_at(&self, text: &mut Vec<u8>, i: usize) -> Result<(), AllocError> {
         self.known();
-        self.is_valid(i)
+        append_slot(text, self.is_valid(i), self.value(i))
     }
 
-    fn bytes_at(&self, i: usize) -> &[u8] {
-        self.known();
-        self.value(i)
+    fn append_lists(&self, text: &mut Vec<u8>) -> Result<(), AllocError> {
+        text.extend_from_slice(b"offsets=")?;
+        append_numbers(text, self.offsets().as_slice())?;
+        text.push(b'\n')?;
+        append_named(text, b"values=", self.values().as_slice())
     }
 }
 
-impl<K: ViewKind> Slotted for BinaryViewArrayGeneric<K> {
+impl<K: ViewKind> Printed for BinaryViewArrayGeneric<K> {
     ghost slots = { view_slots };
+
+    ghost lists = { view_text };
 
     fn count(&self) -> usize {
         self.len()
     }
 
-    fn is_valid_at(&self, i: usize) -> bool {
+    fn append_slot_at(&self, text: &mut Vec<u8>, i: usize) -> Result<(), AllocError> {
         self.known();
-        self.is_valid(i)
+        append_slot(text, self.is_valid(i), self.value_bytes(i))
     }
 
-    fn bytes_at(&self, i: usize) -> &[u8] {
+    fn append_lists(&self, text: &mut Vec<u8>) -> Result<(), AllocError> {
+        append_views(text, self.views().as_slice())?;
+        append_buffers(text, self.data_buffers())
+    }
+}
+
+impl Printed for FixedSizeBinaryArray {
+    ghost slots = { fixed_slots };
+
+    ghost lists = { fixed_text };
+
+    fn count(&self) -> usize {
+        self.len()
+    }
+
+    fn append_slot_at(&self, text: &mut Vec<u8>, i: usize) -> Result<(), AllocError> {
         self.known();
-        self.value_bytes(i)
+        append_slot(text, self.is_valid(i), self.value(i))
+    }
+
+    fn append_lists(&self, text: &mut Vec<u8>) -> Result<(), AllocError> {
+        text.extend_from_slice(b"width=")?;
+        append_number(text, self.size())?;
+        text.push(b'\n')?;
+        append_named(text, b"values=", self.values().as_slice())
+    }
+}
+
+impl Printed for Int64Array {
+    ghost slots = { λ array. number_slots (signed_bytes w64) array.lists };
+
+    ghost lists = { λ array. number_text array.lists };
+
+    fn count(&self) -> usize {
+        self.len()
+    }
+
+    fn append_slot_at(&self, text: &mut Vec<u8>, i: usize) -> Result<(), AllocError> {
+        self.known();
+        slot_is_number::<i64>();
+        append_slot(text, self.is_valid(i), &self.value(i).to_le_bytes())
+    }
+
+    fn append_lists(&self, text: &mut Vec<u8>) -> Result<(), AllocError> {
+        text.extend_from_slice(b"numbers=")?;
+        append_numbers(text, self.values().as_slice())?;
+        text.push(b'\n')?;
+        Ok(())
     }
 }
 
 #[tactic(auto, using(crate::proofs::TextLemmas::next_line))]
-fn append_slots<A: Slotted>(alloc: Global, text: &mut Vec<u8>, array: &A) -> Result<(), AllocError>
+fn append_slots<A: Printed>(text: &mut Vec<u8>, array: &A) -> Result<(), AllocError>
     ensures { OnOk result (text.new.items ≡ text.old.items ++ flat_map slot_line (A.slots array.now)) }
 {
     for i in 0..array.count() {
-        append_slot(alloc, text, array.is_valid_at(i), array.bytes_at(i))?;
+        array.append_slot_at(text, i)?;
     }
     Ok(())
 }
 
-fn append_next<O: PrintedOffset>(text: &mut Vec<u8>, offset: O) -> Result<(), AllocError>
-    ensures { OnOk result (text.new.items ≡ text.old.items ++ after_comma (O.int offset)) }
+fn append_next<O: PrintedOffset>(text: &mut Vec<u8>, number: O) -> Result<(), AllocError>
+    ensures { OnOk result (text.new.items ≡ text.old.items ++ after_comma (O.int number)) }
 {
     text.push(b',')?;
-    append_number(text, offset)
+    append_number(text, number)
 }
 
 #[tactic(auto, using(crate::proofs::TextLemmas::next_number))]
-fn append_rest<O: PrintedOffset>(text: &mut Vec<u8>, offsets: &[O]) -> Result<(), AllocError>
-    ensures { OnOk result (text.new.items ≡ text.old.items ++ flat_map after_comma (map O.int offsets.now)) }
+fn append_rest<O: PrintedOffset>(text: &mut Vec<u8>, numbers: &[O]) -> Result<(), AllocError>
+    ensures { OnOk result (text.new.items ≡ text.old.items ++ flat_map after_comma (map O.int numbers.now)) }
 {
-    for offset in offsets {
-        append_next(text, *offset)?;
+    for number in numbers {
+        append_next(text, *number)?;
     }
     Ok(())
 }
 
-fn append_offsets<O: PrintedOffset>(text: &mut Vec<u8>, offsets: &[O]) -> Result<(), AllocError>
-    ensures { OnOk result (text.new.items ≡ text.old.items ++ numbers_text (map O.int offsets.now)) }
+fn append_numbers<O: PrintedOffset>(text: &mut Vec<u8>, numbers: &[O]) -> Result<(), AllocError>
+    ensures { OnOk result (text.new.items ≡ text.old.items ++ numbers_text (map O.int numbers.now)) }
 {
-    let Some((first, rest)) = offsets.split_first() else {
+    let Some((first, rest)) = numbers.split_first() else {
         return Ok(());
     };
     append_number(text, *first)?;
     append_rest(text, rest)
+}
+
+fn append_named(text: &mut Vec<u8>, name: &[u8], bytes: &[u8]) -> Result<(), AllocError>
+    ensures { OnOk result (text.new.items ≡ text.old.items ++ named_line name.now bytes.now) }
+{
+    text.extend_from_slice(name)?;
+    append_hex(text, bytes)?;
+    text.push(b'\n')?;
+    Ok(())
+}
+
+#[tactic(auto, using(crate::proofs::TextLemmas::next_named))]
+fn append_views(text: &mut Vec<u8>, views: &[View]) -> Result<(), AllocError>
+    ensures { OnOk result (text.new.items ≡ text.old.items ++ flat_map (named_line (codes "view=")) views.now) }
+{
+    for view in views {
+        append_named(text, b"view=", &view.to_le())?;
+    }
+    Ok(())
+}
+
+fn append_buffers(text: &mut Vec<u8>, buffers: &DataBuffers) -> Result<(), AllocError>
+    ensures { OnOk result (text.new.items ≡ text.old.items ++ flat_map (named_line (codes "buffer=")) buffers.now) }
+{
+    for i in 0..buffers.len() {
+        append_named(text, b"buffer=", buffers.get(i).as_slice())?;
+    }
+    Ok(())
 }
 
 fn append_head(text: &mut Vec<u8>, kind: &str, count: usize) -> Result<(), AllocError>
@@ -176,83 +267,13 @@ fn append_head(text: &mut Vec<u8>, kind: &str, count: usize) -> Result<(), Alloc
     text.extend_from_slice(b"\n")
 }
 
-fn append_lists<O: PrintedOffset>(
-    alloc: Global,
-    text: &mut Vec<u8>,
-    array: &BinaryArray<O>,
-) -> Result<(), AllocError>
-    ensures { OnOk result (text.new.items ≡ text.old.items ++ offset_text array.now) }
-{
-    text.extend_from_slice(b"offsets=")?;
-    append_offsets(text, array.offsets().as_slice())?;
-    text.extend_from_slice(b"\nvalues=")?;
-    append_hex(alloc, text, array.values().as_slice())?;
-    text.extend_from_slice(b"\n")
-}
-
-fn array_text<O: PrintedOffset>(
-    alloc: Global,
-    kind: Kind,
-    array: &BinaryArray<O>,
-) -> Result<Vec<u8>, AllocError>
-    ensures { IfOk result (λ text. text.items ≡ printed_head (kind_of kind) (offset_slots array.now) ++ offset_text array.now) }
+fn array_text<A: Printed>(alloc: Global, kind: Kind, array: &A) -> Result<Vec<u8>, AllocError>
+    ensures { IfOk result (λ text. text.items ≡ printed_head (kind_of kind) (A.slots array.now) ++ A.lists array.now) }
 {
     let mut text = Vec::new(alloc);
-    append_head(&mut text, kind.name(), array.len())?;
-    append_slots(alloc, &mut text, array)?;
-    append_lists(alloc, &mut text, array)?;
-    Ok(text)
-}
-
-fn append_named(
-    alloc: Global,
-    text: &mut Vec<u8>,
-    name: &[u8],
-    bytes: &[u8],
-) -> Result<(), AllocError>
-    ensures { OnOk result (text.new.items ≡ text.old.items ++ named_line name.now bytes.now) }
-{
-    text.extend_from_slice(name)?;
-    append_hex(alloc, text, bytes)?;
-    text.push(b'\n')?;
-    Ok(())
-}
-
-#[tactic(auto, using(crate::proofs::TextLemmas::next_named))]
-fn append_views(alloc: Global, text: &mut Vec<u8>, views: &[View]) -> Result<(), AllocError>
-    ensures { OnOk result (text.new.items ≡ text.old.items ++ flat_map (named_line (codes "view=")) views.now) }
-{
-    for view in views {
-        append_named(alloc, text, b"view=", &view.to_le())?;
-    }
-    Ok(())
-}
-
-fn append_buffers(
-    alloc: Global,
-    text: &mut Vec<u8>,
-    buffers: &DataBuffers,
-) -> Result<(), AllocError>
-    ensures { OnOk result (text.new.items ≡ text.old.items ++ flat_map (named_line (codes "buffer=")) buffers.now) }
-{
-    for i in 0..buffers.len() {
-        append_named(alloc, text, b"buffer=", buffers.get(i).as_slice())?;
-    }
-    Ok(())
-}
-
-fn view_array_text<K: ViewKind>(
-    alloc: Global,
-    kind: Kind,
-    array: &BinaryViewArrayGeneric<K>,
-) -> Result<Vec<u8>, AllocError>
-    ensures { IfOk result (λ text. text.items ≡ printed_head (kind_of kind) (view_slots array.now) ++ view_text array.now) }
-{
-    let mut text = Vec::new(alloc);
-    append_head(&mut text, kind.name(), array.len())?;
-    append_slots(alloc, &mut text, array)?;
-    append_views(alloc, &mut text, array.views().as_slice())?;
-    append_buffers(alloc, &mut text, array.data_buffers())?;
+    append_head(&mut text, kind.name(), array.count())?;
+    append_slots(&mut text, array)?;
+    array.append_lists(&mut text)?;
     Ok(text)
 }
 
@@ -269,10 +290,14 @@ pub fn text_of(alloc: Global, column: &AnyArray) -> Result<Vec<u8>, PolarsError>
         AnyArray::Binary64(array) => Ok(array_text(alloc, Kind::Binary64, array)?),
         AnyArray::Utf8_32(array) => Ok(array_text(alloc, Kind::Utf8_32, array.as_binary())?),
         AnyArray::Utf8_64(array) => Ok(array_text(alloc, Kind::Utf8_64, array.as_binary())?),
-        AnyArray::BinView(array) => Ok(view_array_text(alloc, Kind::BinView, array)?),
-        AnyArray::Utf8View(array) => Ok(view_array_text(alloc, Kind::Utf8View, array)?),
+        AnyArray::BinView(array) => Ok(array_text(alloc, Kind::BinView, array)?),
+        AnyArray::Utf8View(array) => Ok(array_text(alloc, Kind::Utf8View, array)?),
+        AnyArray::Fixed(array) => Ok(array_text(alloc, Kind::Fixed(array.size()), array)?),
+        AnyArray::Int64(array) => Ok(array_text(alloc, Kind::Int64, array)?),
     }
 }
+
+// ---- refusals and faults
 
 fn append_cause(text: &mut Vec<u8>, cause: &Cause) -> Result<(), AllocError>
     ensures { OnOk result (text.new.items ≡ text.old.items ++ (name_of cause.now ++ codes "\n")) }
