@@ -1,13 +1,13 @@
 -- Laws of buffers that are made anew.
 use Rattle.std.proofs.Common.{◌≡◌, ℕ, zero, suc, ◌+◌, ◌-◌, ◌*◌, ◌^◌, ◌<◌, ◌≤◌, Bool, true, false, List, [], ◌∷◌, ◌++◌, length, map, take, drop, Option, Some, None, refl, sym, ◌∙◌, ap, subst, arith, length-append, if◌then◌else◌}
-use Rattle.std.specs.Prelude.{nat_le, nat_lt, ◌&&◌, Err}
-use Rattle.std.specs.List.{concat, flat_map}
+use Rattle.std.specs.Prelude.{nat_le, nat_lt, ◌&&◌, ◌==◌, slice_get, slice_index_or, Err}
+use Rattle.std.specs.List.{All, concat, flat_map}
 use Rattle.std.proofs.lemmas.Bool.Decides.{nat_tests}
 use Rattle.std.proofs.lemmas.List.{map-append, length-map}
 use Rattle.std.proofs.lemmas.List.Folds.{flat_map-map}
 use Rattle.std.proofs.lemmas.List.Concat.{flat_map-cons}
 use Rattle.std.proofs.lemmas.Grind.{flat_map-append}
-use Rattle.std.proofs.lemmas.List.Elements.{All-nil, All-append, All-cons}
+use Rattle.std.proofs.lemmas.List.Elements.{All-nil, All-append, All-cons, All-head, All-tail, All-map}
 use Rattle.column_base.specs.declared.errors.Cause.{Cause}
 use Rattle.column_base.specs.declared.errors.Cause.TheVariants.{Overflow}
 use Rattle.column_base.specs.declared.errors.PolarsError.{PolarsError}
@@ -20,13 +20,14 @@ use Rattle.column_base.proofs.PushesLemmas.{Stands, shown_more, stands_refused}
 use Rattle.column_storage.specs.Slots.{flagged_slots}
 use Rattle.column_storage.specs.Validity.{AreFlagsOf}
 use Rattle.column_storage.specs.declared.data_buffers.TheConstants.{MAX_BUFFERS}
-use Rattle.column_view.specs.Views.{view_content}
+use Rattle.column_view.specs.Views.{IsView, view_length, view_content}
 use Rattle.column_blocks.specs.Blocks.{AreFilled, buffers_of, blocks_of, is_short_value, written_values}
 use Rattle.column_blocks.proofs.BlocksLemmas.{buffers_of-blocks_of}
-use Rattle.column_binview.specs.Slots.{ViewLists, view_lists, view_count, contents, view_slots}
-use Rattle.column_binview.specs.Builders.{ViewBuilder, lists_of, no_slots, IsSoundBuilder, pushed_row, row_fault, row_growth, slot_of, written_row, written_rows, Appends}
-use Rattle.column_binview.specs.Gathered.{long_slots, IsGathered, is_much_spared}
-use Rattle.column_binview.proofs.SlotsLemmas.{values_of-view_slots}
+use Rattle.column_blocks.proofs.AppendsLemmas.{appends-stored}
+use Rattle.column_binview.specs.Slots.{ViewLists, view_lists, view_count, contents, view_slots, AreSoundViews}
+use Rattle.column_binview.specs.Builders.{ViewBuilder, lists_of, no_slots, IsSoundBuilder, pushed_row, row_fault, row_growth, slot_of, FitsView, written_row, written_rows, Appends}
+use Rattle.column_binview.specs.Gathered.{long_slots, IsGathered, gather_fault, is_much_spared}
+use Rattle.column_binview.proofs.SlotsLemmas.{values_of-view_slots, length-content}
 use Rattle.column_binview.proofs.BuildersLemmas.{sound-no_slots, sound-rows, appends-rows}
 
 -- ---- whether much is spared
@@ -179,6 +180,99 @@ too_many builder before after value cause at small refused =
     let last = length-append (written_values value) (flat_map written_values after) in
     let one = one_long value told.0 in
     omega arith
+
+-- ---- rows that are refused
+
+long_first : (first second : Option Cause) → ((c : Cause) → first ≡ Some c → c ≡ Overflow) → second ≡ Some Overflow → first or_else second ≡ Some Overflow
+long_first None second one two = two
+long_first (Some c) second one two = ap Some (one c refl)
+
+long_row : (builder : ViewBuilder) (value : List ℕ) → 2 ^ 32 ≤ length value → row_fault builder (Some value) ≡ Some Overflow
+long_row builder value large =
+    let long : is_short_value value ≡ false = grind (arith, nat_tests) in
+    let test : nat_le (2 ^ 32) (length value) ≡ true = grind (arith, nat_tests) in
+    rw (long, test) refl
+
+-- a value that is too long, wherever it comes
+pub long_rows : (builder : ViewBuilder) (rows : List (Option (List ℕ))) (i : ℕ) (value : List ℕ) → slice_get rows i ≡ Some (Some value) → 2 ^ 32 ≤ length value → growth_fault row_growth builder rows ≡ Some Overflow
+long_rows builder [] i value at large = absurd (cc)
+long_rows builder (None ∷ rows) zero value at large = absurd (cc)
+long_rows builder (Some first ∷ rows) zero value at large =
+    let same : first ≡ value = cc in
+    let fault = long_row builder first (subst (λ (v : List ℕ). 2 ^ 32 ≤ length v) (sym same) large) in
+    ap (λ (f : Option Cause). f or_else growth_fault row_growth (pushed_row builder (Some first)) rows) fault
+long_rows builder (row ∷ rows) (suc i) value at large =
+    long_first (row_fault builder row) (growth_fault row_growth (pushed_row builder row) rows) (overflow_alone builder row) (long_rows (pushed_row builder row) rows i value at large)
+
+-- a row that fits is refused where there are as many buffers as there may be, and would have written one
+full_row : (builder : ViewBuilder) (row : Option (List ℕ)) (cause : Cause) → FitsView row → row_fault builder row ≡ Some cause → (MAX_BUFFERS ≤ length (buffers_of builder.bytes.blocks)) × (length (written_row row) ≡ 1)
+full_row builder None cause fits is = absurd (cc)
+full_row builder (Some value) cause fits is =
+    let large : nat_le (2 ^ 32) (length value) ≡ false = grind (arith, nat_tests) in
+    let told = refused_if (is_short_value value) (nat_le (2 ^ 32) (length value)) (nat_le MAX_BUFFERS (length (buffers_of builder.bytes.blocks))) cause large is in
+    let full : MAX_BUFFERS ≤ length (buffers_of builder.bytes.blocks) = let test = told.1 in grind (arith, nat_tests) in
+    (full, one_long value told.0)
+
+-- a row adds at most one buffer, where it is long
+row_buffers : (builder : ViewBuilder) (row : Option (List ℕ)) → length (buffers_of (pushed_row builder row).bytes.blocks) ≤ length (buffers_of builder.bytes.blocks) + length (written_row row)
+row_buffers builder None = omega arith
+row_buffers builder (Some value) = (appends-stored builder.bytes.blocks value).count
+
+many_first : (builder : ViewBuilder) (row : Option (List ℕ)) (rows : List (Option (List ℕ))) (first second : Option Cause) (cause : Cause) → FitsView row → row_fault builder row ≡ first
+    → (second ≡ Some cause → MAX_BUFFERS < length (buffers_of (pushed_row builder row).bytes.blocks) + length (written_rows rows))
+    → first or_else second ≡ Some cause → MAX_BUFFERS < length (buffers_of builder.bytes.blocks) + (length (written_row row) + length (written_rows rows))
+many_first builder row rows None second cause fits at rest is = let more = row_buffers builder row in let many = rest is in omega arith
+many_first builder row rows (Some c) second cause fits at rest is = let full = full_row builder row c fits at in let most = full.0 in let one = full.1 in omega arith
+
+pub many_rows : (builder : ViewBuilder) (rows : List (Option (List ℕ))) (cause : Cause) → All FitsView rows → growth_fault row_growth builder rows ≡ Some cause → MAX_BUFFERS < length (buffers_of builder.bytes.blocks) + length (written_rows rows)
+many_rows builder [] cause fits is = absurd (cc)
+many_rows builder (row ∷ rows) cause fits is =
+    let count = ap length (flat_map-cons written_row row rows) ∙ length-append (written_row row) (written_rows rows) in
+    let many = many_first builder row rows (row_fault builder row) (growth_fault row_growth (pushed_row builder row) rows) cause (All-head FitsView row rows fits) refl
+    (many_rows (pushed_row builder row) rows cause (All-tail FitsView row rows fits)) is in
+    omega arith
+
+pub rows_refused : (builder : ViewBuilder) (rows : List (Option (List ℕ))) (cause : Cause) → All FitsView rows → growth_fault row_growth builder rows ≡ Some cause
+    → (cause ≡ Overflow) × (MAX_BUFFERS < length (buffers_of builder.bytes.blocks) + length (written_rows rows))
+rows_refused builder rows cause fits is = (overflow_rows builder rows cause is, many_rows builder rows cause fits is)
+
+-- ---- long slots that are refused
+
+gather_if : (none : Bool) (fault : Option Cause) (cause : Cause) → (if none then None else fault) ≡ Some cause → fault ≡ Some cause
+gather_if true fault cause is = absurd (cc)
+gather_if false fault cause is = is
+
+pub slots_refused : (lists : ViewLists) (cause : Cause) → All (λ (value : List ℕ). length value < 2 ^ 32) (values_of (view_slots lists)) → gather_fault lists ≡ Some cause → (cause ≡ Overflow) × (MAX_BUFFERS < length (long_slots lists))
+slots_refused lists cause fits is =
+    let values = values_of (view_slots lists) in
+    let refused = gather_if (length lists.buffers == 0) (growth_fault row_growth no_slots (map Some values)) cause is in
+    let many = many_rows no_slots (map Some values) cause (All-map FitsView Some values fits) refused in
+    let none : length (buffers_of (blocks_of [])) ≡ 0 = ap length no_buffers in
+    let count : length (written_rows (map Some values)) ≡ length (long_slots lists) = ap length (written_rows-values values) in
+    (overflow_rows no_slots (map Some values) cause refused, omega arith)
+
+number_below : (a b c d n : ℕ) → a < 256 → b < 256 → c < 256 → d < 256 → n ≡ a + b * 256 + c * 65536 + d * 16777216 → n < 2 ^ 32
+number_below a b c d n first second third fourth is = omega arith
+
+length_below : (view : List ℕ) → length view ≡ 16 → ((i : ℕ) → slice_index_or view i 0 < 256) → view_length view < 2 ^ 32
+unfolding view_length
+length_below [] count small = absurd (omega arith)
+length_below (a ∷ []) count small = absurd (omega arith)
+length_below (a ∷ b ∷ []) count small = absurd (omega arith)
+length_below (a ∷ b ∷ c ∷ []) count small = absurd (omega arith)
+length_below (a ∷ b ∷ c ∷ d ∷ rest) count small = number_below a b c d (view_length (a ∷ b ∷ c ∷ d ∷ rest)) (small 0) (small 1) (small 2) (small 3) refl
+
+contents_below : (views buffers : List (List ℕ)) → All IsView views → All (λ (value : List ℕ). length value < 2 ^ 32) (contents views buffers)
+contents_below [] buffers are = All-nil (λ (value : List ℕ). length value < 2 ^ 32)
+contents_below (view ∷ views) buffers are =
+    let is = All-head IsView view views are in
+    let most = length-content view buffers in
+    let below = length_below view is.count is.bytes in
+    All-cons (λ (value : List ℕ). length value < 2 ^ 32) (view_content view buffers) (contents views buffers) (omega arith) (contents_below views buffers (All-tail IsView view views are))
+
+pub views_refused : (text : Bool) (lists : ViewLists) (cause : Cause) → AreSoundViews text lists → All IsView lists.views → gather_fault lists ≡ Some cause → (cause ≡ Overflow) × (MAX_BUFFERS < length (long_slots lists))
+views_refused text lists cause sound are is =
+    slots_refused lists cause (subst (All (λ (value : List ℕ). length value < 2 ^ 32)) (sym (values_of-view_slots lists sound.flagged)) (contents_below lists.views lists.buffers are)) is
 
 -- ---- one slot after another
 

@@ -1,5 +1,5 @@
 -- Arrays of views that grow: this library's own.
-use Rattle.std.specs.Prelude.{◌≡◌, ℕ, Bool, true, false, List, [], ◌++◌, length, take, Option, Some, None}
+use Rattle.std.specs.Prelude.{◌≡◌, ℕ, ◌^◌, ◌<◌, Bool, true, false, List, [], ◌++◌, length, take, Option, Some, None, IfSome}
 use Rattle.std.specs.List.{flat_map}
 use Rattle.column_base.specs.declared.errors.Cause.{Cause}
 use Rattle.column_base.specs.Kinds.{Slot}
@@ -62,6 +62,10 @@ pushed_row builder (Some value) = pushed_value builder value
 abbrev pub row_fault : ViewBuilder → Option (List ℕ) → Option Cause
 row_fault builder None = None
 row_fault builder (Some value) = store_fault builder.bytes.blocks value
+
+-- a row whose value has a length that a view can say
+abbrev pub FitsView : Option (List ℕ) → Type 0
+FitsView row = IfSome row (λ value. length value < 2 ^ 32)
 
 -- how a builder takes rows
 abbrev pub row_growth : Growth ViewBuilder (Option (List ℕ))

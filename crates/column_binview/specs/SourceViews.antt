@@ -1,5 +1,5 @@
 -- How a builder takes views of a source, one after another: this library's own.
-use Rattle.std.specs.Prelude.{◌≡◌, ℕ, Bool, List, Option, Some, None, IfSome}
+use Rattle.std.specs.Prelude.{◌≡◌, ℕ, Bool, List, ◌∷◌, Option, Some, None, IfSome}
 use Rattle.std.specs.Iterator.{YieldsThen}
 use Rattle.column_base.specs.declared.errors.Cause.{Cause}
 use Rattle.column_base.specs.Pushes.{Growth}
@@ -7,6 +7,10 @@ use Rattle.column_view.specs.ViewFaults.{view_fault}
 use Rattle.column_blocks.specs.Blocks.{store_fault}
 use Rattle.column_blocks.specs.Sources.{view_take_fault}
 use Rattle.column_binview.specs.Builders.{ViewBuilder, pushed_value, pushed_null, source_content, pushed_source_view}
+
+-- calls give the items of a list, first to last: each gives the first of those that are left, and leaves the others
+abbrev pub GivesList : {S A : Type 0} → (S → List A) → (S → Option A → S → Type 0) → Type 0
+GivesList {S} {A} left steps = (s : S) (x : A) (t : S) → steps s (Some x) t → left s ≡ x ∷ left t
 
 -- no view that calls give has a fault over the buffers of a source
 abbrev pub AreFineViews : {S : Type 0} → Bool → List (List ℕ) → (S → Option (List ℕ) → S → Type 0) → S → Type 0

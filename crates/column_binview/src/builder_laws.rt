@@ -1,18 +1,24 @@
 //! Laws of builders of views: what each call appends, that builders stay sound, and what a change leaves.
 
-ghost use Rattle.std.specs.Prelude.{◌≡◌, ℕ, ◌<◌, Bool, List, [], ◌∷◌, ◌++◌, length, map, replicate, slice_set, Option, Some, None};
+ghost use Rattle.std.specs.Prelude.{◌≡◌, ℕ, ◌+◌, ◌^◌, ◌<◌, ◌≤◌, Bool, List, [], ◌∷◌, ◌++◌, length, map, replicate, slice_get, slice_set, Option, Some, None};
+ghost use Rattle.std.specs.List.{All, filter_map};
 ghost use Rattle.column_base.specs.declared.errors.Cause.{Cause};
 ghost use Rattle.column_base.specs.declared.errors.Cause.TheVariants.{Overflow};
 ghost use Rattle.column_base.specs.Kinds.{Slot};
 ghost use Rattle.column_base.specs.Pushes.{grown, growth_fault};
-ghost use Rattle.column_base.specs.Slots.{slot_at};
+ghost use Rattle.column_base.specs.Slots.{slot_at, values_of};
+ghost use Rattle.column_storage.specs.declared.data_buffers.TheConstants.{MAX_BUFFERS};
 ghost use Rattle.column_view.specs.Views.{IsView, view_content};
-ghost use Rattle.column_view.specs.ViewFaults.{view_fault};
+ghost use Rattle.column_view.specs.ViewFaults.{view_fault, views_fault};
 ghost use Rattle.column_blocks.specs.Blocks.{buffers_of, full_fault};
 ghost use Rattle.column_blocks.specs.Rows.{changed_view, with_flag};
 ghost use Rattle.column_blocks.specs.Sources.{SourceBuffers, BuilderBytes, source_at, source_added, view_taken, view_take_fault, taken_buffers};
 ghost use Rattle.column_binview.specs.Slots.{ViewLists, view_slots, AreSoundViews};
-ghost use Rattle.column_binview.specs.Builders.{ViewBuilder, lists_of, builder_of, with_rows, with_buffer, with_source, finished_builder, pushed_row, row_fault, row_growth, extended_row, source_content, pushed_source_view, slot_of, written_row, written_rows, Appends, IsSoundBuilder};
+ghost use Rattle.column_binview.specs.Builders.{ViewBuilder, lists_of, builder_of, with_rows, with_buffer, with_source, finished_builder, pushed_row, row_fault, row_growth, extended_row, source_content, pushed_source_view, slot_of, FitsView, written_row, written_rows, Appends, IsSoundBuilder};
+ghost use Rattle.column_binview.specs.SourceViews.{GivesList, AreFineViews, AreFineRows};
+ghost use Rattle.column_binview.specs.Gathered.{long_slots, gather_fault};
+
+use column_view::View;
 
 /// A pushed row adds its slot, and the bytes of a long value; rows one after another add theirs, in order.
 pub fn pushed_rows_append()
@@ -72,4 +78,32 @@ pub fn values_need_no_validity()
 /// Rows are refused for their length or the number of buffers alone.
 pub fn rows_overflow_alone()
     ensures { (builder : ViewBuilder) (rows : List (Option (List ℕ))) (cause : Cause) → growth_fault row_growth builder rows ≡ Some cause → cause ≡ Overflow }
+{}
+
+/// Rows whose values have lengths that a view can say are refused only where the buffers, and the long values among the
+/// rows, are together more than there may be buffers. Where one of the values is longer, the rows are always refused.
+pub fn rows_are_refused_for_length_or_number()
+    ensures number { (builder : ViewBuilder) (rows : List (Option (List ℕ))) (cause : Cause) → All FitsView rows → growth_fault row_growth builder rows ≡ Some cause
+        → (cause ≡ Overflow) × (MAX_BUFFERS < length (buffers_of builder.bytes.blocks) + length (written_rows rows)) }
+    ensures long { (builder : ViewBuilder) (rows : List (Option (List ℕ))) (i : ℕ) (value : List ℕ) → slice_get rows i ≡ Some (Some value) → 2 ^ 32 ≤ length value → growth_fault row_growth builder rows ≡ Some Overflow }
+{}
+
+/// Buffers that are made anew of the long slots are refused only where more slots are long than there may be buffers: of
+/// sound lists whose views are 16 bytes, and wherever each slot has a length that a view can say.
+pub fn gathering_is_refused_only_for_many_slots()
+    ensures views { (text : Bool) (lists : ViewLists) (cause : Cause) → AreSoundViews text lists → All IsView lists.views → gather_fault lists ≡ Some cause
+        → (cause ≡ Overflow) × (MAX_BUFFERS < length (long_slots lists)) }
+    ensures slots { (lists : ViewLists) (cause : Cause) → All (λ value. length value < 2 ^ 32) (values_of (view_slots lists)) → gather_fault lists ≡ Some cause
+        → (cause ≡ Overflow) × (MAX_BUFFERS < length (long_slots lists)) }
+{}
+
+/// Views that an iterator gives of a list, first to last, have no fault where those of the list have none. `left` says which
+/// are left of it.
+pub fn given_views_are_fine<I: Iterator<Item = View>>()
+    ensures { (text : Bool) (buffers : List (List ℕ)) (left : I → List (List ℕ)) (items : I) → GivesList left I.next_gives → views_fault text (left items) buffers ≡ None → AreFineViews text buffers I.next_gives items }
+{}
+
+/// The same of optional views: those that are there have none.
+pub fn given_rows_are_fine<I: Iterator<Item = Option<View>>>()
+    ensures { (text : Bool) (buffers : List (List ℕ)) (left : I → List (Option (List ℕ))) (items : I) → GivesList left I.next_gives → views_fault text (filter_map (λ row. row) (left items)) buffers ≡ None → AreFineRows text buffers I.next_gives items }
 {}

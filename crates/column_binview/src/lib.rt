@@ -22,8 +22,9 @@ pub use array::{BinaryViewArray, BinaryViewArrayGeneric, Utf8ViewArray};
 pub use builder::{MutableBinaryViewArray, MutablePlBinary, MutablePlString};
 pub use builder_laws::{
     buffers_append, builder_of_lists_is_sound, calls_append_together, equal_slots_append,
-    one_slot_is_changed, pushed_rows_append, rows_overflow_alone, sources_stay,
-    values_need_no_validity,
+    gathering_is_refused_only_for_many_slots, given_rows_are_fine, given_views_are_fine,
+    one_slot_is_changed, pushed_rows_append, rows_are_refused_for_length_or_number,
+    rows_overflow_alone, sources_stay, values_need_no_validity,
 };
 pub use iterator::{BinaryViewValueIter, MutableBinaryViewValueIter};
 pub use laws::{
