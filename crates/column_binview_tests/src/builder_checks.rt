@@ -67,7 +67,7 @@ fn array_is<K: ViewKind>(
 }
 
 /// Whether a builder has these views, finished buffers, flags and sums.
-fn builder_is<K: ViewKind>(
+pub fn builder_is<K: ViewKind>(
     builder: &MutableBinaryViewArray<K>,
     views: &[[u8; 16]],
     finished: &[&[u8]],
@@ -361,7 +361,7 @@ fn cut_all(builder: &mut MutablePlBinary) -> Result<(), PolarsError> {
     builder.extend_from_lengths(b"abcdefhix", &[3, 3, 3])?;
     builder.extend_from_lengths(b"abcdefgxyza1234abcd", &[3, 4, 12])?;
     builder.extend_from_lengths(b"abcdefghijklmaaaaaaaaaaaaa", &[13, 13])?;
-    builder.extend_from_lengths(b"abcabcdefghijklm", &[3, 13])
+    builder.extend_from_lengths_with_stats(b"abcabcdefghijklm", &[3, 13], 3, 13, 16)
 }
 
 /// Whether the slots from a place on are texts.

@@ -10,10 +10,12 @@ use crate::builder_checks::{
     text_replay_gives, texts_are_read, texts_are_told, values_are_read, values_make, views_are_put,
 };
 use crate::cases::{ABC, LONG, array, long};
+use crate::source_checks::{Given, missing_are_null, views_are_taken};
 use column_base::{BinaryKind, Cause, Utf8Kind};
 use column_binview::{
     buffers_append, builder_of_lists_is_sound, calls_append_together, equal_slots_append,
-    one_slot_is_changed, pushed_rows_append, rows_overflow_alone, sources_stay,
+    gathering_is_refused_only_for_many_slots, one_slot_is_changed, pushed_rows_append,
+    rows_are_refused_for_length_or_number, rows_overflow_alone, sources_stay,
     values_need_no_validity,
 };
 use std::test::Fail;
@@ -103,6 +105,35 @@ fn bytes_of_sources_are_copied(rt: HostRuntime) -> Result<(), Fail> {
     views[2][12] = 26;
     let copied = source_is_used(rt.alloc(), Way::Copy, &views, &[], 39)?;
     assert!(rt; copied);
+    Ok(())
+}
+
+#[test]
+fn views_of_an_iterator_take_their_buffers(rt: HostRuntime) -> Result<(), Fail> {
+    let views = [of(b'c', 0), of(b'a', 1), of(b'c', 0), ABC];
+    for given in [Given::Take, Given::TakeTrusted, Given::TakeUnchecked] {
+        let taken = views_are_taken(rt.alloc(), given, &views, &[C, A], 26)?;
+        assert!(rt; taken);
+    }
+    Ok(())
+}
+
+#[test]
+fn views_of_an_iterator_are_copied(rt: HostRuntime) -> Result<(), Fail> {
+    let mut views = [of(b'c', 0), of(b'a', 0), of(b'c', 0), ABC];
+    views[1][12] = 13;
+    views[2][12] = 26;
+    let copied = views_are_taken(rt.alloc(), Given::Copy, &views, &[], 39)?;
+    assert!(rt; copied);
+    Ok(())
+}
+
+#[test]
+fn missing_views_are_null(rt: HostRuntime) -> Result<(), Fail> {
+    for is_trusted in [false, true] {
+        let taken = missing_are_null(rt.alloc(), is_trusted)?;
+        assert!(rt; taken);
+    }
     Ok(())
 }
 
@@ -234,5 +265,7 @@ fn laws_are_called(_rt: HostRuntime) -> Result<(), Fail> {
     one_slot_is_changed();
     values_need_no_validity();
     rows_overflow_alone();
+    rows_are_refused_for_length_or_number();
+    gathering_is_refused_only_for_many_slots();
     Ok(())
 }

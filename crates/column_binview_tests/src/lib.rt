@@ -12,4 +12,6 @@ mod cases;
 #[cfg(test)]
 mod checks;
 #[cfg(test)]
+mod source_checks;
+#[cfg(test)]
 mod tests;
