@@ -1,0 +1,3 @@
+mod NamesLemmas
+pub mod DedupedLemmas
+mod TakenLemmas
