@@ -34,7 +34,7 @@ use Rattle.column_primitive.specs.Types.{number_type_fault}
 use Rattle.column_primitive.specs.Numbers.{NumberLists, NumberArray, number_lists, number_array, number_count, number_fault, AreSoundNumbers, sliced_numbers, sliced_array}
 use Rattle.column_primitive.proofs.NumbersLemmas as numbers
 use Rattle.std.proofs.lemmas.List.{length-map}
-use Rattle.column_relayout.specs.Kinds.{is_text, is_binary, has_views, has_offsets, text_kind, binary_kind, offset_kind, view_kind}
+use Rattle.column_relayout.specs.Kinds.{is_text, is_binary, has_views, slot_width, text_kind, binary_kind, offset_kind, view_kind}
 use Rattle.column_relayout.specs.Columns.{RawLists, offset_column, view_column, fixed_column, number_column, column_kind, slots_of, count_of, parts_fault, AreSound, IsWithinType, IsWellFormed, part_of, retyped}
 use Rattle.column_relayout.specs.Cuts.{as_read}
 
@@ -56,11 +56,15 @@ no_views false true = refl
 no_views true false = refl
 no_views true true = refl
 
-pub with_offsets : (large text : Bool) → has_offsets (offset_kind large text) ≡ true
-with_offsets false false = refl
-with_offsets false true = refl
-with_offsets true false = refl
-with_offsets true true = refl
+pub views_are : (text : Bool) → has_views (view_kind text) ≡ true
+views_are false = refl
+views_are true = refl
+
+pub widthless : (large text : Bool) → slot_width (offset_kind large text) ≡ None
+widthless false false = refl
+widthless false true = refl
+widthless true false = refl
+widthless true true = refl
 
 pub binary_is : (large : Bool) → is_binary (offset_kind large false) ≡ true
 binary_is false = refl

@@ -2,7 +2,7 @@
 use Rattle.std.proofs.Common.{◌≡◌, ℕ, ◌+◌, ◌-◌, ◌≤◌, Bool, true, false, List, [], ◌∷◌, fold, None, refl, sym, ◌∙◌, ap, subst, arith}
 use Rattle.column_base.specs.Kinds.{ColumnKind}
 use Rattle.column_relayout.specs.declared.steps.Step.{Step}
-use Rattle.column_relayout.specs.declared.steps.Step.TheVariants.{Slice, Left, Right, ToUtf8, ToBinary, Append, Rebuild}
+use Rattle.column_relayout.specs.declared.steps.Step.TheVariants.{Slice, Left, Right, ToUtf8, ToBinary, Gc, Dedupe, Append, Rebuild}
 use Rattle.column_binview.specs.Slots.{ViewLists, view_count, sliced_views}
 use Rattle.column_relayout.specs.Kinds.{is_text}
 use Rattle.column_relayout.specs.Columns.{RawLists, offset_column, view_column, fixed_column, number_column, column_kind, slots_of, count_of, parts_fault, AreSound, IsWithinType, part_of, retyped}
@@ -27,6 +27,8 @@ span_from (Left m ∷ plan) from start n = span_from plan from start m
 span_from (Right m ∷ plan) from start n = let e : from + start + m ≡ from + (start + m) = omega arith in rw e (span_from plan from (start + m) (n - m))
 span_from (ToUtf8 ∷ plan) from start n = span_from plan from start n
 span_from (ToBinary ∷ plan) from start n = span_from plan from start n
+span_from (Gc ∷ plan) from start n = span_from plan from start n
+span_from (Dedupe ∷ plan) from start n = span_from plan from start n
 span_from (Append rows ∷ plan) from start n = span_from plan from start n
 span_from (Rebuild next ∷ plan) from start n = span_from plan from start n
 
@@ -74,6 +76,8 @@ cut_after start middle end ToUtf8 plan sound light none is cut =
     after_retyped start end true (column_kind middle) plan (subst (λ (column : RawLists). IsCut column (column_kind middle) (0, count_of column) plan end) is cut)
 cut_after start middle end ToBinary plan sound light none is cut =
     after_retyped start end false (column_kind middle) plan (subst (λ (column : RawLists). IsCut column (column_kind middle) (0, count_of column) plan end) is cut)
+cut_after start middle end Gc plan sound light none is cut = absurd (cc)
+cut_after start middle end Dedupe plan sound light none is cut = absurd (cc)
 cut_after start middle end (Append rows) plan sound light none is cut = absurd (cc)
 cut_after start middle end (Rebuild next) plan sound light none is cut = absurd (cc)
 
@@ -97,6 +101,8 @@ within_before text lists (Left n) light within = within
 within_before text lists (Right n) light within = within
 within_before text lists ToUtf8 light within = within
 within_before text lists ToBinary light within = within
+within_before text lists Gc light within = absurd (cc)
+within_before text lists Dedupe light within = absurd (cc)
 within_before text lists (Append rows) light within = absurd (cc)
 within_before text lists (Rebuild next) light within = absurd (cc)
 

@@ -1,5 +1,9 @@
 pub mod ColumnsLemmas
 pub mod WrittenLemmas
 pub mod StepsLemmas
+pub mod BuffersLemmas
+pub mod GatherLemmas
+pub mod AppendLemmas
+pub mod RebuildLemmas
 pub mod PlansLemmas
 pub mod CutsLemmas

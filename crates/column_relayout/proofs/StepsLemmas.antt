@@ -1,17 +1,19 @@
 -- One step, over the lists of a column.
-use Rattle.std.proofs.Common.{◌≡◌, ℕ, ◌+◌, ◌-◌, ◌≤◌, Bool, true, false, not, nat_lt, List, ◌++◌, length, map, take, drop, Option, Some, None, Err, refl, sym, ◌∙◌, ap, subst, arith}
-use Rattle.std.specs.Prelude.{◌&&◌, ◌||◌}
+use Rattle.std.proofs.Common.{◌≡◌, ℕ, ◌+◌, ◌-◌, ◌≤◌, Bool, true, false, not, nat_lt, List, ◌++◌, length, map, take, drop, Option, Some, None, Err, refl, sym, ◌∙◌, ap, subst, inl, arith}
+use Rattle.std.specs.Prelude.{◌&&◌}
 use Rattle.std.proofs.Math.Seq.{take-length}
 use Rattle.std.proofs.lemmas.Bool.Decides.{nat_tests}
 use Rattle.std.proofs.lemmas.List.{length-drop}
 use Rattle.column_base.specs.declared.errors.Cause.TheVariants.{StepRange, WrongKind, InvalidUtf8, ViewIndex, BufferSlice}
 use Rattle.column_base.specs.declared.errors.Cause.{Cause}
 use Rattle.column_base.specs.declared.errors.PolarsError.{PolarsError}
+use Rattle.column_base.specs.declared.errors.PolarsError.TheVariants.{ComputeError, OutOfBounds, NoMemory}
 use Rattle.column_base.specs.Errors.{error_of}
 use Rattle.column_base.specs.Integers.{greatest_offset}
 use Rattle.column_base.specs.Kinds.{Slot, ColumnKind}
 use Rattle.column_base.specs.Lists.{sublist}
-use Rattle.column_base.specs.Slots.{values_of}
+use Rattle.column_base.specs.Answers.{Answers, AnswersFirst}
+use Rattle.column_base.specs.Slots.{values_of, rows_of}
 use Rattle.column_base.proofs.AnswersLemmas.{cause_none}
 use Rattle.column_offset.specs.Text.{are_well_formed_utf8, texts_fault}
 use Rattle.column_binary.specs.Rows.{slot_of}
@@ -23,14 +25,15 @@ use Rattle.column_storage.specs.Validity.{AreFlagsOf}
 use Rattle.column_view.specs.ViewFaults.{contents_fault}
 use Rattle.column_binview.specs.Slots.{ViewLists, view_count, view_slots}
 use Rattle.column_binview.proofs.TextsLemmas.{contents_fault-slots}
-use Rattle.column_relayout.specs.Kinds.{kind_of, is_text, is_binary, has_offsets, offset_kind, view_kind, greatest_of}
+use Rattle.column_relayout.specs.Kinds.{kind_of, is_text, is_binary, offset_kind, view_kind}
 use Rattle.column_relayout.specs.Columns.{RawLists, offset_column, view_column, column_kind, slots_of, count_of, part_of, IsWellFormed}
 use Rattle.column_relayout.specs.Plans.{range_fault, step_fault, slots_after, light_step}
-use Rattle.column_relayout.specs.Relayouts.{StepAnswers}
+use Rattle.column_relayout.specs.Relayouts.{AnswersStep, StepAnswers}
 use Rattle.column_relayout.specs.Steps.{StepsTo}
-use Rattle.column_relayout.specs.Written.{written_slots, given_rows, room_fault, written_lists}
+use Rattle.column_rows.specs.Rows.{given_rows}
+use Rattle.column_relayout.specs.Written.{written_slots, bytes_fault, room_fault, has_no_width, written_lists}
 use Rattle.column_relayout.proofs.WrittenLemmas.{written_mean}
-use Rattle.column_relayout.proofs.ColumnsLemmas.{text_is, binary_is, no_views, with_offsets, to_text_kind, to_binary_kind, kind-part}
+use Rattle.column_relayout.proofs.ColumnsLemmas.{text_is, binary_is, no_views, widthless, to_text_kind, to_binary_kind, kind-part}
 
 -- ---- parts of the slots
 
@@ -154,23 +157,29 @@ pub ruleset kind_laws = (not_bytes, not_texts)
 
 -- ---- slots that are written anew
 
-greatest_is : (large text : Bool) → greatest_of (offset_kind large text) ≡ Some (greatest_offset large)
-greatest_is false false = refl
-greatest_is false true = refl
-greatest_is true false = refl
-greatest_is true true = refl
+room_is : (large text : Bool) (rows : List (Option (List ℕ))) (slots : List Slot) → room_fault (offset_kind large text) rows slots ≡ bytes_fault (Some (greatest_offset large)) slots
+room_is false false rows slots = refl
+room_is false true rows slots = refl
+room_is true false rows slots = refl
+room_is true true rows slots = refl
 
-pub append_fault : (large : Bool) (slots : List Slot) (rows : List (Option (List ℕ))) (greatest : ℕ) → greatest_offset large ≡ greatest → step_fault (offset_kind large false) slots (Append rows) ≡ room_fault (Some greatest) (slots ++ map slot_of rows)
-unfolding step_fault
-append_fault large slots rows greatest is = rw (with_offsets large false, text_is large false, greatest_is large false, is) refl
+some_width : (large text : Bool) → has_no_width (offset_kind large text) ≡ false
+some_width false false = refl
+some_width false true = refl
+some_width true false = refl
+some_width true true = refl
 
-pub append_texts_fault : (large : Bool) (slots : List Slot) (rows : List (Option (List ℕ))) (greatest : ℕ) → greatest_offset large ≡ greatest → are_well_formed_utf8 (given_rows rows) ≡ true → step_fault (offset_kind large true) slots (Append rows) ≡ room_fault (Some greatest) (slots ++ map slot_of rows)
+pub append_fault : (large : Bool) (slots : List Slot) (rows : List (Option (List ℕ))) (greatest : ℕ) → greatest_offset large ≡ greatest → step_fault (offset_kind large false) slots (Append rows) ≡ bytes_fault (Some greatest) (slots ++ map slot_of rows)
 unfolding step_fault
-append_texts_fault large slots rows greatest is texts = rw (with_offsets large true, text_is large true, texts, greatest_is large true, is) refl
+append_fault large slots rows greatest is = rw (text_is large false, widthless large false, room_is large false rows (slots ++ map slot_of rows), is) refl
+
+pub append_texts_fault : (large : Bool) (slots : List Slot) (rows : List (Option (List ℕ))) (greatest : ℕ) → greatest_offset large ≡ greatest → are_well_formed_utf8 (given_rows rows) ≡ true → step_fault (offset_kind large true) slots (Append rows) ≡ bytes_fault (Some greatest) (slots ++ map slot_of rows)
+unfolding step_fault
+append_texts_fault large slots rows greatest is texts = rw (text_is large true, texts, widthless large true, room_is large true rows (slots ++ map slot_of rows), is) refl
 
 pub append_no_texts : (large : Bool) (slots : List Slot) (rows : List (Option (List ℕ))) → are_well_formed_utf8 (given_rows rows) ≡ false → step_fault (offset_kind large true) slots (Append rows) ≡ Some InvalidUtf8
 unfolding step_fault
-append_no_texts large slots rows texts = rw (with_offsets large true, text_is large true, texts) refl
+append_no_texts large slots rows texts = rw (text_is large true, texts) refl
 
 pub append_steps : (large text : Bool) (old new : OffsetLists) (rows : List (Option (List ℕ))) → new ≡ written_lists (offset_slots old ++ map slot_of rows) → IsWellFormed (offset_column large text new) → StepsTo (offset_column large text old) (Append rows) (offset_column large text new)
 unfolding slots_after
@@ -179,40 +188,18 @@ append_steps large text old new rows is formed =
     record {
       well_formed = formed;
       kind = refl;
-      slots = slots;
+      slots = rw (widthless large text) slots;
       laid = is ∙ ap written_lists (sym slots);
     }
 
-pub rebuild_fault : (large text wide texts : Bool) (slots : List Slot) (next : Kind) (greatest : ℕ) → kind_of next ≡ offset_kind wide texts → greatest_offset wide ≡ greatest → (texts && not text) ≡ false → step_fault (offset_kind large text) slots (Rebuild next) ≡ room_fault (Some greatest) (written_slots slots)
+pub rebuild_fault : (large text wide texts : Bool) (slots : List Slot) (next : Kind) (greatest : ℕ) → kind_of next ≡ offset_kind wide texts → greatest_offset wide ≡ greatest → (texts && not text) ≡ false → step_fault (offset_kind large text) slots (Rebuild next) ≡ bytes_fault (Some greatest) (written_slots slots)
 unfolding step_fault
-rebuild_fault large text wide texts slots next greatest kind is may = rw (kind, with_offsets large text, with_offsets wide texts, text_is wide texts, text_is large text, may, greatest_is wide texts, is) refl
+rebuild_fault large text wide texts slots next greatest kind is may = rw (kind, some_width wide texts, text_is wide texts, text_is large text, may, widthless wide texts, room_is wide texts (rows_of slots) (written_slots slots), is) refl
 
-wrong_by : (old new text other : Bool) → (text && not other) ≡ true → (old || new || text && not other) ≡ true
-wrong_by true new text other wrong = refl
-wrong_by false true text other wrong = refl
-wrong_by false false text other wrong = wrong
-
-pub wrong_rebuild : (kind : ColumnKind) (slots : List Slot) (next : Kind) → is_text kind ≡ false → is_text (kind_of next) ≡ true → step_fault kind slots (Rebuild next) ≡ Some WrongKind
+-- no column but one of texts is written as texts
+pub wrong_rebuild : (kind : ColumnKind) (slots : List Slot) (next : Kind) → is_text kind ≡ false → is_text (kind_of next) ≡ true → has_no_width (kind_of next) ≡ false → step_fault kind slots (Rebuild next) ≡ Some WrongKind
 unfolding step_fault
-wrong_rebuild kind slots next bytes texts = rw (wrong_by (not (has_offsets kind)) (not (has_offsets (kind_of next))) (is_text (kind_of next)) (is_text kind) (rw (texts, bytes) refl)) refl
-
--- no row is appended to a column without offsets, and no column is rebuilt from such a kind or into one
-pub append_without_offsets : (kind : ColumnKind) (slots : List Slot) (rows : List (Option (List ℕ))) → has_offsets kind ≡ false → step_fault kind slots (Append rows) ≡ Some WrongKind
-unfolding step_fault
-append_without_offsets kind slots rows wrong = rw wrong refl
-
-pub rebuild_of_none : (kind : ColumnKind) (slots : List Slot) (next : Kind) → has_offsets kind ≡ false → step_fault kind slots (Rebuild next) ≡ Some WrongKind
-unfolding step_fault
-rebuild_of_none kind slots next wrong = rw wrong refl
-
-none_by : (old new text other : Bool) → new ≡ false → (old || not new || text && not other) ≡ true
-none_by true new text other wrong = refl
-none_by false true text other wrong = absurd (cc)
-none_by false false text other wrong = refl
-
-pub rebuild_to_none : (kind : ColumnKind) (slots : List Slot) (next : Kind) → has_offsets (kind_of next) ≡ false → step_fault kind slots (Rebuild next) ≡ Some WrongKind
-unfolding step_fault
-rebuild_to_none kind slots next wrong = rw (none_by (not (has_offsets kind)) (has_offsets (kind_of next)) (is_text (kind_of next)) (is_text kind) wrong) refl
+wrong_rebuild kind slots next bytes texts wide = rw (wide, texts, bytes) refl
 
 pub rebuild_steps : (large text wide texts : Bool) (old new : OffsetLists) (next : Kind) → kind_of next ≡ offset_kind wide texts → new ≡ written_lists (written_slots (offset_slots old)) → IsWellFormed (offset_column wide texts new) → StepsTo (offset_column large text old) (Rebuild next) (offset_column wide texts new)
 unfolding slots_after
@@ -221,19 +208,31 @@ rebuild_steps large text wide texts old new next kind is formed =
     record {
       well_formed = formed;
       kind = sym kind;
-      slots = slots;
+      slots = rw (kind, widthless wide texts) slots;
       laid = is ∙ ap written_lists (sym slots);
     }
 
-pub ruleset rebuild_faults = (text_is, wrong_rebuild, rebuild_to_none, rebuild_of_none)
+pub ruleset rebuild_faults = (text_is, wrong_rebuild)
 
 -- ---- answers
 
 -- a cause as an error is the step's answer
 pub cause_answers : (old : RawLists) (step : Step) (cause : Cause) → step_fault (column_kind old) (slots_of old) step ≡ Some cause → StepAnswers old step (Err (error_of cause))
-cause_answers old step ViewIndex fault = (fault, refl)
-cause_answers old step BufferSlice fault = (fault, refl)
-cause_answers old step cause fault = (fault, refl)
+cause_answers old step ViewIndex fault = (inl fault, refl)
+cause_answers old step BufferSlice fault = (inl fault, refl)
+cause_answers old step cause fault = (inl fault, refl)
+
+-- the refusal of a call that knows of no bound on buffers
+pub refused_first : {X Y : Type 0} (lists : X → RawLists) (old : RawLists) (step : Step) (fault : Option Cause) (P : Y → Type 0) (error : PolarsError) → AnswersFirst {X = Y} (Err error) fault P → fault ≡ step_fault (column_kind old) (slots_of old) step → AnswersStep {X = X} lists old step (Err error)
+refused_first lists old step fault P (ComputeError cause) answer same = (inl (sym same ∙ answer.0), answer.1)
+refused_first lists old step fault P (OutOfBounds cause) answer same = (inl (sym same ∙ answer.0), answer.1)
+refused_first lists old step fault P NoMemory answer same = sym same ∙ answer
+
+-- a step without a fault, of a call that is refused for memory alone
+pub refused_never : {X Y : Type 0} (lists : X → RawLists) (old : RawLists) (step : Step) (P : Y → Type 0) (error : PolarsError) → Answers {X = Y} (Err error) None P → step_fault (column_kind old) (slots_of old) step ≡ None → AnswersStep {X = X} lists old step (Err error)
+refused_never lists old step P (ComputeError cause) answer none = let some = answer.0 in absurd (cc)
+refused_never lists old step P (OutOfBounds cause) answer none = let some = answer.0 in absurd (cc)
+refused_never lists old step P NoMemory answer none = none
 
 pub error_answers : (old : RawLists) (step : Step) (cause : Cause) (error : PolarsError) → error ≡ error_of cause → step_fault (column_kind old) (slots_of old) step ≡ Some cause → StepAnswers old step (Err error)
 error_answers old step cause error is fault = subst (λ (e : PolarsError). StepAnswers old step (Err e)) (sym is) (cause_answers old step cause fault)

@@ -4,7 +4,7 @@ use Rattle.std.specs.Prelude.{◌+ℤ◌, sum, int_lt, nat_lt, ◌&&◌, count_b
 use Rattle.std.specs.List.{concat}
 use Rattle.std.specs.Iterator.{Yields, YieldsFirst}
 use Rattle.std.proofs.Math.Seq.{take-length}
-use Rattle.std.proofs.lemmas.List.{length-append, append-nil, take_more, map-append, take-append-drop, drop_more, take_all, at_drop_all}
+use Rattle.std.proofs.lemmas.List.{length-append, append-nil, take_more, drop_more, take_all, at_drop_all}
 use Rattle.std.proofs.lemmas.List.Sums.{sum_by-cons, sum_by-append}
 use Rattle.std.proofs.lemmas.Bool.Decides.{nat_tests}
 use Rattle.std.proofs.lemmas.Int.{ints}
@@ -15,9 +15,9 @@ use Rattle.column_base.specs.declared.errors.PolarsError.TheVariants.{ComputeErr
 use Rattle.column_base.specs.Answers.{Gives, Answers}
 use Rattle.column_base.specs.Kinds.{Slot}
 use Rattle.column_base.specs.Utf8.{is_well_formed_utf8}
-use Rattle.column_base.proofs.AnswersLemmas.{cause_none, first_none}
+use Rattle.column_base.proofs.AnswersLemmas.{cause_none}
 use Rattle.column_base.specs.Pushes.{grown, growth_fault}
-use Rattle.column_base.specs.Slots.{slot_at, values_of, row_of, rows_of}
+use Rattle.column_base.specs.Slots.{slot_at, values_of, row_of}
 use Rattle.column_storage.specs.Bits.{flags_of, kept_flags, frozen_flags, joined_flags}
 use Rattle.column_storage.specs.Slots.{flagged_slots}
 use Rattle.column_storage.proofs.CountsLemmas.{unset-replicate}
@@ -31,13 +31,14 @@ use Rattle.column_offset.proofs.GrowthLemmas.{last_of-push, within_limit}
 use Rattle.column_offset.proofs.OffsetsLemmas.{place_below_last, pos-nat_of, nat_of_order}
 use Rattle.column_offset.proofs.TextLemmas.{covered_is}
 use Rattle.column_binary.specs.Slots.{OffsetLists, offset_lists, slot_count, offset_slots, AreSoundLists}
-use Rattle.column_binary.specs.Rows.{AreFullLists, no_slots, slot_of, row_length, pushed_row, row_fault, row_growth, used_lists, frozen_lists, joined_lists, builder_fault}
+use Rattle.column_binary.specs.Rows.{AreFullLists, no_slots, slot_of, row_length, pushed_row, row_growth, used_lists, frozen_lists, joined_lists, builder_fault}
 use Rattle.column_binary.proofs.SlotsLemmas.{flagged, length-pieces, values_of-offset_slots}
 use Rattle.column_binary.proofs.FirstLemmas.{full-used, slots-used, slots-frozen}
 use Rattle.column_binary.proofs.JoinLemmas.{lengths-full, full_joined, slots-joined, bytes_from}
 use Rattle.column_binary.proofs.RowsLemmas.{full_rows, slots_rows, fault_rows}
 use Rattle.column_utf8.specs.Texts.{AreSoundTexts}
-use Rattle.column_relayout.specs.Written.{bytes_in, written_slots, given_rows, room_fault, written_lists, HoldSlots}
+use Rattle.column_relayout.specs.Written.{bytes_in, written_slots, bytes_fault, written_lists, HoldSlots}
+use Rattle.column_rows.specs.Rows.{given_rows, bytes_in_rows}
 
 -- ---- how many bytes slots have
 
@@ -67,6 +68,19 @@ bytes_in-rows (row ∷ rows) =
     let rest = bytes_in-rows rows in
     let both : sum (map row_length (row ∷ rows)) ≡ row_length row + sum (map row_length rows) = sum_by-cons (λ k. k) (row_length row) (map row_length rows) in
     omega arith
+
+-- rows have as many bytes as their slots
+pub bytes_in-given : (rows : List (Option (List ℕ))) → bytes_in (map slot_of rows) ≡ bytes_in_rows rows
+bytes_in-given [] = refl
+bytes_in-given (None ∷ rows) =
+    let all = bytes_in-cons (slot_of None) (map slot_of rows) in
+    let rest = bytes_in-given rows in
+    omega (arith, all, rest)
+bytes_in-given (Some bytes ∷ rows) =
+    let all = bytes_in-cons (slot_of (Some bytes)) (map slot_of rows) in
+    let rest = bytes_in-given rows in
+    let both : bytes_in_rows (Some bytes ∷ rows) ≡ length bytes + bytes_in_rows rows = sum_by-cons (λ k. k) (length bytes) (map length (given_rows rows)) in
+    omega (arith, all, rest, both)
 
 -- ---- valid slots as they are, null ones without bytes
 
@@ -278,42 +292,6 @@ rows_fit greatest lists slots rows hold within =
     let limits = below greatest (bytes_in slots) (sum (map row_length rows)) (bytes_in (slots ++ map slot_of rows)) (last_of lists.offsets) (last_held lists slots hold) (omega arith) within in
     fault_rows greatest lists rows limits.0 ∙ within_limit greatest _ limits.1
 
--- ---- the rows of slots, one after another
-
-written-more : (slots : List Slot) (i : ℕ) → i < length slots → written_slots (take (i + 1) slots) ≡ written_slots (take i slots) ++ slot_of (row_of (slot_at slots i)) ∷ []
-written-more slots i within =
-    ap written_slots (take_more slots i (record { valid = true; bytes = [] }) within)
-    ∙ ap (map slot_of) (map-append row_of (take i slots) (slot_at slots i ∷ []))
-    ∙ map-append slot_of (rows_of (take i slots)) (row_of (slot_at slots i) ∷ [])
-
-pub hold_next : (greatest : ℕ) (lists new : OffsetLists) (slots : List Slot) (i : ℕ) (row : Option (List ℕ)) → HoldSlots lists (written_slots (take i slots)) → i < length slots → row ≡ row_of (slot_at slots i) → new ≡ pushed_row lists row → HoldSlots new (written_slots (take (i + 1) slots))
-hold_next greatest lists new slots i row hold within is pushes =
-    let more = hold_rows greatest lists new (written_slots (take i slots)) (row ∷ []) hold pushes in
-    let all : written_slots (take i slots) ++ slot_of row ∷ [] ≡ written_slots (take (i + 1) slots) =
-    ap (λ (r : Option (List ℕ)). written_slots (take i slots) ++ slot_of r ∷ []) is ∙ sym (written-more slots i within) in
-    subst (HoldSlots new) all more
-
-written_front : (slots : List Slot) (n : ℕ) → bytes_in (written_slots (take n slots)) ≤ bytes_in (written_slots slots)
-written_front slots n =
-    let both : written_slots (take n slots) ++ written_slots (drop n slots) ≡ written_slots slots =
-    sym (map-append slot_of (rows_of (take n slots)) (rows_of (drop n slots)))
-    ∙ ap (map slot_of) (sym (map-append row_of (take n slots) (drop n slots)))
-    ∙ ap written_slots (take-append-drop n slots) in
-    let sum = bytes_in-append (written_slots (take n slots)) (written_slots (drop n slots)) in
-    let is : bytes_in (written_slots (take n slots) ++ written_slots (drop n slots)) ≡ bytes_in (written_slots slots) = ap bytes_in both in
-    omega (arith, sum, is)
-
-pub next_fits : (greatest : ℕ) (lists : OffsetLists) (slots : List Slot) (i : ℕ) (row : Option (List ℕ)) → HoldSlots lists (written_slots (take i slots)) → i < length slots → row ≡ row_of (slot_at slots i) → bytes_in (written_slots slots) ≤ greatest → row_fault greatest lists row ≡ None
-next_fits greatest lists slots i row hold within is room =
-    let all : written_slots (take (i + 1) slots) ≡ written_slots (take i slots) ++ slot_of row ∷ [] =
-    written-more slots i within ∙ ap (λ (r : Option (List ℕ)). written_slots (take i slots) ++ slot_of r ∷ []) (sym is) in
-    let size : bytes_in (written_slots (take (i + 1) slots)) ≡ bytes_in (written_slots (take i slots) ++ slot_of row ∷ []) = ap bytes_in all in
-    let front = written_front slots (i + 1) in
-    (first_none (row_fault greatest lists row) None (rows_fit greatest lists (written_slots (take i slots)) (row ∷ []) hold (omega (arith, size, front, room)))).0
-
-pub hold_end : (lists : OffsetLists) (slots : List Slot) (i : ℕ) → HoldSlots lists (written_slots (take i slots)) → length slots ≤ i → HoldSlots lists (written_slots slots)
-hold_end lists slots i hold past = subst (λ (ss : List Slot). HoldSlots lists (written_slots ss)) (take_all i slots past) hold
-
 -- ---- lists that are frozen
 
 next_offset : (a b : ℤ) → pos 0 ≤ℤ a → a ≤ℤ b → a +ℤ pos (nat_of b - nat_of a) ≡ b
@@ -416,7 +394,7 @@ written_mean slots =
 
 -- ---- texts
 
-both_hold : (a b : Bool) → (a && b) ≡ true → (a ≡ true) × (b ≡ true)
+pub both_hold : (a b : Bool) → (a && b) ≡ true → (a ≡ true) × (b ≡ true)
 both_hold true true both = (refl, refl)
 both_hold true false both = absurd (cc)
 both_hold false b both = absurd (cc)
@@ -444,13 +422,13 @@ row_texts (slot ∷ slots) rows texts given =
 
 -- ---- room
 
-pub room_none : (greatest : ℕ) (slots : List Slot) → bytes_in slots ≤ greatest → room_fault (Some greatest) slots ≡ None
+pub room_none : (greatest : ℕ) (slots : List Slot) → bytes_in slots ≤ greatest → bytes_fault (Some greatest) slots ≡ None
 room_none greatest slots within = let test : nat_lt greatest (bytes_in slots) ≡ false = grind (arith, nat_tests) in rw test refl
 
-pub room_some : (greatest : ℕ) (slots : List Slot) → greatest < bytes_in slots → room_fault (Some greatest) slots ≡ Some Overflow
+pub room_some : (greatest : ℕ) (slots : List Slot) → greatest < bytes_in slots → bytes_fault (Some greatest) slots ≡ Some Overflow
 room_some greatest slots past = let test : nat_lt greatest (bytes_in slots) ≡ true = grind (arith, nat_tests) in rw test refl
 
-pub room_within : (greatest : ℕ) (slots : List Slot) → room_fault (Some greatest) slots ≡ None → bytes_in slots ≤ greatest
+pub room_within : (greatest : ℕ) (slots : List Slot) → bytes_fault (Some greatest) slots ≡ None → bytes_in slots ≤ greatest
 room_within greatest slots none = let test : nat_lt greatest (bytes_in slots) ≡ false = cause_none _ Overflow none in grind (arith, nat_tests)
 
 -- ---- what loops over slots and rows keep
@@ -521,41 +499,6 @@ no_nulls [] none = refl
 no_nulls (slot ∷ slots) none =
     let both = first_valid slot.valid slot.bytes slots none in
     no_null slot.valid slot.bytes slots both.1 both.0 (no_nulls slots both.1)
-
--- room that is left for the rows from i on
-abbrev pub Leaves : List (Option (List ℕ)) → ℕ → ℕ → ℕ → Type 0
-Leaves rows room i left = room + bytes_in (map slot_of (drop i rows)) ≡ left + bytes_in (map slot_of rows)
-
-next_row : (rows : List (Option (List ℕ))) (i : ℕ) → i < length rows → bytes_in (map slot_of (drop i rows)) ≡ row_length (slice_index_or rows i None) + bytes_in (map slot_of (drop (i + 1) rows))
-next_row rows i within =
-    ap (λ (rs : List (Option (List ℕ))). bytes_in (map slot_of rs)) (drop_more rows i None within)
-    ∙ bytes_in-cons (slot_of (slice_index_or rows i None)) (map slot_of (drop (i + 1) rows))
-
-pub leaves_start : (rows : List (Option (List ℕ))) (room : ℕ) → Leaves rows room 0 room
-leaves_start rows room = refl
-
-pub leaves_missing : (rows : List (Option (List ℕ))) (room i left : ℕ) → i < length rows → slice_index_or rows i None ≡ None → Leaves rows room i left → Leaves rows room (i + 1) left
-leaves_missing rows room i left within none leaves =
-    let next = next_row rows i within in
-    let own : row_length (slice_index_or rows i None) ≡ 0 = ap row_length none in
-    omega (arith, leaves, next, own)
-
-pub leaves_given : (rows : List (Option (List ℕ))) (room i left : ℕ) (bytes : List ℕ) → i < length rows → slice_index_or rows i None ≡ Some bytes → Leaves rows room i left → length bytes ≤ left → Leaves rows room (i + 1) (left - length bytes)
-leaves_given rows room i left bytes within given leaves fits =
-    let next = next_row rows i within in
-    let own : row_length (slice_index_or rows i None) ≡ length bytes = ap row_length given in
-    omega (arith, leaves, next, own)
-
-pub leaves_none : (rows : List (Option (List ℕ))) (room i left : ℕ) (bytes : List ℕ) → i < length rows → slice_index_or rows i None ≡ Some bytes → Leaves rows room i left → left < length bytes → room < bytes_in (map slot_of rows)
-leaves_none rows room i left bytes within given leaves past =
-    let next = next_row rows i within in
-    let own : row_length (slice_index_or rows i None) ≡ length bytes = ap row_length given in
-    omega (arith, leaves, next, own)
-
-pub leaves_end : (rows : List (Option (List ℕ))) (room i left : ℕ) → length rows ≤ i → Leaves rows room i left → (room - left ≡ bytes_in (map slot_of rows)) × (bytes_in (map slot_of rows) ≤ room)
-leaves_end rows room i left past leaves =
-    let none : bytes_in (map slot_of (drop i rows)) ≡ 0 = at_drop_all (λ (rs : List (Option (List ℕ))). bytes_in (map slot_of rs)) rows i past in
-    (omega (arith, leaves, none), omega (arith, leaves, none))
 
 -- the rows from i on are texts exactly where all are
 abbrev pub AreLeft : List (Option (List ℕ)) → ℕ → Type 0

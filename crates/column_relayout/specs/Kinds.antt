@@ -75,13 +75,11 @@ has_views kinds.BinView = true
 has_views kinds.Utf8View = true
 has_views kind = false
 
--- Arrow columnar format, "Variable-size Binary Layout": slots are told by offsets
-abbrev pub has_offsets : ColumnKind → Bool
-has_offsets kinds.Binary32 = true
-has_offsets kinds.Binary64 = true
-has_offsets kinds.Utf8_32 = true
-has_offsets kinds.Utf8_64 = true
-has_offsets kind = false
+-- how many bytes each slot has, where they are as many in each
+abbrev pub slot_width : ColumnKind → Option ℕ
+slot_width (kinds.Fixed width) = Some width
+slot_width kinds.Int64 = Some 8
+slot_width kind = None
 
 -- the greatest offset of a kind, where it has offsets
 abbrev pub greatest_of : ColumnKind → Option ℕ

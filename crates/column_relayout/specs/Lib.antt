@@ -2,7 +2,9 @@ pub mod Kinds
 pub mod Columns
 pub mod Written
 pub mod Plans
+pub mod Buffers
 pub mod Steps
 pub mod Cuts
 pub mod Arrays
 pub mod Relayouts
+pub mod Rebuilds

@@ -1,18 +1,17 @@
 -- What a plan means for lists of slots, where it faults, and what steps that move no byte leave of the lists.
-use Rattle.std.specs.Prelude.{◌≡◌, ℕ, ◌+◌, ◌-◌, ◌&&◌, ◌||◌, Bool, true, false, not, if◌then◌else◌, nat_lt, List, [], ◌∷◌, ◌++◌, length, take, drop, map, fold, MatchBool, Option, Some, None}
+use Rattle.std.specs.Prelude.{◌≡◌, ℕ, ◌+◌, ◌-◌, Bool, true, false, not, if◌then◌else◌, nat_lt, List, [], ◌∷◌, ◌++◌, length, take, drop, fold, MatchBool, Option, Some, None}
 use Rattle.column_base.specs.declared.errors.Cause.{Cause}
 use Rattle.column_base.specs.declared.errors.Cause.TheVariants.{StepRange, WrongKind, InvalidUtf8}
 use Rattle.column_base.specs.Answers.{cause_if, ◌or_else◌}
 use Rattle.column_base.specs.Kinds.{Slot, ColumnKind}
 use Rattle.column_base.specs.Lists.{sublist}
-use Rattle.column_base.specs.Slots.{values_of}
+use Rattle.column_base.specs.Slots.{values_of, rows_of}
 use Rattle.column_offset.specs.Text.{are_well_formed_utf8, texts_fault}
-use Rattle.column_binary.specs.Rows.{slot_of}
 use Rattle.column_relayout.specs.declared.steps.Step.{Step}
-use Rattle.column_relayout.specs.declared.steps.Step.TheVariants.{Slice, Left, Right, ToUtf8, ToBinary, Append, Rebuild}
-use Rattle.column_relayout.specs.Kinds.{kind_of, is_text, is_binary, has_views, has_offsets, text_kind, binary_kind, greatest_of}
+use Rattle.column_relayout.specs.declared.steps.Step.TheVariants.{Slice, Left, Right, ToUtf8, ToBinary, Gc, Dedupe, Append, Rebuild}
+use Rattle.column_relayout.specs.Kinds.{kind_of, is_text, is_binary, has_views, text_kind, binary_kind}
 use Rattle.column_relayout.specs.Columns.{RawLists, column_kind, slots_of, count_of, part_of, retyped}
-use Rattle.column_relayout.specs.Written.{written_slots, given_rows, room_fault}
+use Rattle.column_relayout.specs.Written.{slots_in, append_fault, write_fault}
 
 -- ---- one step
 
@@ -28,20 +27,17 @@ text_fault kind slots =
     then cause_if (not (are_well_formed_utf8 (values_of slots))) InvalidUtf8
     else texts_fault (values_of slots)
 
--- the first fault of a step; columns without offsets are neither written nor appended to yet
+-- the first fault of a step
 unfoldable pub step_fault : ColumnKind → List Slot → Step → Option Cause
 step_fault kind slots (Slice from n) = range_fault (length slots) (from + n)
 step_fault kind slots (Left n) = range_fault (length slots) n
 step_fault kind slots (Right n) = range_fault (length slots) n
 step_fault kind slots ToUtf8 = cause_if (not (is_binary kind)) WrongKind or_else text_fault kind slots
 step_fault kind slots ToBinary = cause_if (not (is_text kind)) WrongKind
-step_fault kind slots (Append rows) =
-    cause_if (not (has_offsets kind)) WrongKind
-    or_else cause_if (is_text kind && not (are_well_formed_utf8 (given_rows rows))) InvalidUtf8
-    or_else room_fault (greatest_of kind) (slots ++ map slot_of rows)
-step_fault kind slots (Rebuild next) =
-    cause_if (not (has_offsets kind) || not (has_offsets (kind_of next)) || is_text (kind_of next) && not (is_text kind)) WrongKind
-    or_else room_fault (greatest_of (kind_of next)) (written_slots slots)
+step_fault kind slots Gc = cause_if (not (has_views kind)) WrongKind
+step_fault kind slots Dedupe = cause_if (not (has_views kind)) WrongKind
+step_fault kind slots (Append rows) = append_fault kind slots rows
+step_fault kind slots (Rebuild next) = write_fault (is_text kind) (rows_of slots) (kind_of next)
 
 -- the kind that a step gives
 abbrev pub kind_after : ColumnKind → Step → ColumnKind
@@ -51,13 +47,13 @@ kind_after kind (Rebuild next) = kind_of next
 kind_after kind step = kind
 
 -- the slots that a step gives
-unfoldable pub slots_after : List Slot → Step → List Slot
-slots_after slots (Slice from n) = sublist slots from n
-slots_after slots (Left n) = take n slots
-slots_after slots (Right n) = drop n slots
-slots_after slots (Append rows) = slots ++ map slot_of rows
-slots_after slots (Rebuild next) = written_slots slots
-slots_after slots step = slots
+unfoldable pub slots_after : ColumnKind → List Slot → Step → List Slot
+slots_after kind slots (Slice from n) = sublist slots from n
+slots_after kind slots (Left n) = take n slots
+slots_after kind slots (Right n) = drop n slots
+slots_after kind slots (Append rows) = slots ++ slots_in kind rows
+slots_after kind slots (Rebuild next) = slots_in (kind_of next) (rows_of slots)
+slots_after kind slots step = slots
 
 -- ---- the plan
 
@@ -73,7 +69,7 @@ at_fault (Some cause) at meaning = faults at cause
 -- the steps in order, as long as none has a fault; the first is step `at`
 abbrev pub meaning_from : ℕ → ColumnKind → List Slot → List Step → Meaning
 meaning_from at kind slots [] = leads kind slots
-meaning_from at kind slots (step ∷ plan) = at_fault (step_fault kind slots step) at (meaning_from (at + 1) (kind_after kind step) (slots_after slots step) plan)
+meaning_from at kind slots (step ∷ plan) = at_fault (step_fault kind slots step) at (meaning_from (at + 1) (kind_after kind step) (slots_after kind slots step) plan)
 
 abbrev pub plan_meaning : RawLists → List Step → Meaning
 plan_meaning column plan = meaning_from 0 (column_kind column) (slots_of column) plan
@@ -87,6 +83,8 @@ is_light (Left n) = true
 is_light (Right n) = true
 is_light ToUtf8 = true
 is_light ToBinary = true
+is_light Gc = false
+is_light Dedupe = false
 is_light (Append rows) = false
 is_light (Rebuild next) = false
 
@@ -97,7 +95,7 @@ IsLight (step ∷ plan) = (is_light step ≡ true) × IsLight plan
 -- No step up to and with the first heavy one has a fault, and there is a heavy one.
 abbrev pub ReachesHeavy : ColumnKind → List Slot → List Step → Type 0
 ReachesHeavy kind slots [] = ⊥
-ReachesHeavy kind slots (step ∷ plan) = (step_fault kind slots step ≡ None) × MatchBool (is_light step) (ReachesHeavy (kind_after kind step) (slots_after slots step) plan) (Unit {0})
+ReachesHeavy kind slots (step ∷ plan) = (step_fault kind slots step ≡ None) × MatchBool (is_light step) (ReachesHeavy (kind_after kind step) (slots_after kind slots step) plan) (Unit {0})
 
 -- what a light step leaves of the lists; a heavy one is not meant here
 unfoldable pub light_step : RawLists → Step → RawLists
@@ -106,6 +104,8 @@ light_step column (Left n) = part_of column 0 n
 light_step column (Right n) = part_of column n (count_of column - n)
 light_step column ToUtf8 = retyped true column
 light_step column ToBinary = retyped false column
+light_step column Gc = column
+light_step column Dedupe = column
 light_step column (Append rows) = column
 light_step column (Rebuild next) = column
 

@@ -1,13 +1,15 @@
 //! The step that appends rows.
 
-ghost use Rattle.std.specs.Prelude.{◌≡◌, ◌++◌, ◌+◌, ◌<◌, ◌≤◌, true, false, map, Some, None, MatchOption};
+ghost use Rattle.std.specs.Prelude.{◌≡◌, ◌++◌, ◌+◌, ◌*◌, ◌^◌, ◌<◌, ◌≤◌, nat_lt, true, false, map, length, Some, None, MatchOption};
 ghost use Rattle.column_base.specs.Answers.{Answers, AnswersFirst};
 ghost use Rattle.column_offset.specs.Text.{are_well_formed_utf8};
 ghost use Rattle.column_binary.specs.Slots.{offset_slots};
 ghost use Rattle.column_binary.specs.Rows.{slot_of};
+ghost use Rattle.column_fixed.specs.Slots.{fixed_count};
+ghost use Rattle.column_rows.specs.Rows.{given_rows};
 ghost use Rattle.column_relayout.specs.declared.steps.Step.TheVariants.{Append};
-ghost use Rattle.column_relayout.specs.Columns.{offset_column};
-ghost use Rattle.column_relayout.specs.Written.{bytes_in, given_rows, written_lists, room_fault};
+ghost use Rattle.column_relayout.specs.Columns.{offset_column, view_column, fixed_column, number_column};
+ghost use Rattle.column_relayout.specs.Written.{bytes_in, written_lists, bytes_fault};
 ghost use Rattle.column_relayout.specs.Arrays.{lists_of};
 ghost use Rattle.column_relayout.specs.Relayouts.{AnswersStep, StepAnswers};
 
@@ -17,17 +19,26 @@ use crate::rows::Rows;
 use crate::written::{taken_over, used_bytes};
 use column_base::{Cause, Offset, PolarsError, is_utf8, push_each};
 use column_binary::BinaryArray;
+use column_binview::{BinaryViewArray, Utf8ViewArray};
+use column_fixed::FixedSizeBinaryArray;
+use column_primitive::Int64Array;
+use column_rows::{
+    are_of_view, are_of_width, bytes_within, fixed_with_rows, numbers_with_rows, views_with_rows,
+};
 use column_utf8::Utf8Array;
 use std::alloc::Global;
 
-/// The slots as they are, and after them one of each row: valid, with its bytes, or null where the row is missing. The
-/// column is consumed, and its lists are new.
+/// The slots as they are, and after them one of each row: valid, with its bytes, or null where the row is missing, with
+/// zeros where slots have a width and else without bytes. The column is consumed.
 ///
-/// `WrongKind` where the column has no offsets: to views, to byte strings of one width and to numbers no row is
-/// appended yet. Else `InvalidUtf8` where the column is one of texts and a row is not UTF-8, and else `Overflow` where
-/// the bytes of all slots and rows together pass the greatest offset. `NoMemory` where there is none for the lists, and
-/// never where there is a cause.
-#[tactic(auto, using(crate::proofs::StepsLemmas::append_without_offsets))]
+/// With offsets the lists are new. With views the column's views and buffers stay, and the further buffers are, end to
+/// end, the rows that have more than 12 bytes.
+///
+/// `InvalidUtf8` where the column is one of texts and a row is not UTF-8. `WrongLength` where slots have a width, of 8
+/// bytes for numbers, and a row has another length. `Overflow` with offsets where the bytes of all slots and rows together
+/// pass the greatest offset; of byte strings of one width where all slots have 2 ^ 64 bytes or more together; with views
+/// where a row has 2 ^ 32 bytes or more, or else only where buffers and long rows together are more than there may be
+/// buffers. `NoMemory` where there is none for the lists, and never where there is a cause but for the number of buffers.
 pub fn step_append(alloc: Global, column: AnyArray, rows: &Rows) -> Result<AnyArray, PolarsError>
     ensures { StepAnswers (lists_of column) (Append rows.now) result }
 {
@@ -36,12 +47,16 @@ pub fn step_append(alloc: Global, column: AnyArray, rows: &Rows) -> Result<AnyAr
         AnyArray::Binary64(array) => Ok(AnyArray::Binary64(append_bytes(alloc, array, rows)?)),
         AnyArray::Utf8_32(array) => Ok(AnyArray::Utf8_32(append_texts(alloc, array, rows)?)),
         AnyArray::Utf8_64(array) => Ok(AnyArray::Utf8_64(append_texts(alloc, array, rows)?)),
-        AnyArray::BinView(_) => Err(Cause::WrongKind.into()),
-        AnyArray::Utf8View(_) => Err(Cause::WrongKind.into()),
-        AnyArray::Fixed(_) => Err(Cause::WrongKind.into()),
-        AnyArray::Int64(_) => Err(Cause::WrongKind.into()),
+        AnyArray::BinView(array) => Ok(AnyArray::BinView(append_views(alloc, array, rows)?)),
+        AnyArray::Utf8View(array) => {
+            Ok(AnyArray::Utf8View(append_text_views(alloc, array, rows)?))
+        }
+        AnyArray::Fixed(array) => Ok(AnyArray::Fixed(append_fixed(alloc, array, rows)?)),
+        AnyArray::Int64(array) => Ok(AnyArray::Int64(append_numbers(alloc, array, rows)?)),
     }
 }
+
+// ---- with offsets
 
 fn append_bytes<O: Offset>(
     alloc: Global,
@@ -100,28 +115,12 @@ fn appended<O: Offset>(
     array: &BinaryArray<O>,
     rows: &Rows,
 ) -> Result<BinaryArray<O>, PolarsError>
-    ensures { let slots = offset_slots array.now ++ map slot_of rows.now in AnswersFirst result (room_fault (Some O.GREATEST) slots) (λ new. new ≡ written_lists slots) }
+    ensures { let slots = offset_slots array.now ++ map slot_of rows.now in AnswersFirst result (bytes_fault (Some O.GREATEST) slots) (λ new. new ≡ written_lists slots) }
 {
-    match row_bytes(rows, O::GREATEST - used_bytes(array).len()) {
+    match bytes_within(rows, O::GREATEST - used_bytes(array).len()) {
         Some(bytes) => fitting(alloc, array, rows, bytes),
         None => Err(Cause::Overflow.into()),
     }
-}
-
-/// How many bytes the rows have together, or None where they are more than `room`.
-fn row_bytes(rows: &Rows, room: usize) -> Option<usize>
-    ensures { let all = bytes_in (map slot_of rows.now) in MatchOption result (room < all) (λ bytes. (bytes ≡ all) × (all ≤ room)) }
-{
-    let mut left = room;
-    for i in 0..rows.len() {
-        if let Some(bytes) = rows.get(i) {
-            if bytes.len() > left {
-                return None;
-            }
-            left -= bytes.len();
-        }
-    }
-    Some(room - left)
 }
 
 fn fitting<O: Offset>(
@@ -137,4 +136,87 @@ fn fitting<O: Offset>(
     push_each(&mut builder, rows.as_slice().iter())?;
     builder.known();
     builder.freeze()
+}
+
+// ---- with views
+
+fn append_views(
+    alloc: Global,
+    array: BinaryViewArray,
+    rows: &Rows,
+) -> Result<BinaryViewArray, PolarsError>
+    ensures { AnswersStep (λ new. view_column false new) (view_column false array) (Append rows.now) result }
+{
+    array.known();
+    if !are_of_view(rows) {
+        return Err(Cause::Overflow.into());
+    }
+    let new = views_with_rows(alloc, array, rows)?;
+    Column::known(&new);
+    Ok(new)
+}
+
+fn append_text_views(
+    alloc: Global,
+    array: Utf8ViewArray,
+    rows: &Rows,
+) -> Result<Utf8ViewArray, PolarsError>
+    ensures { AnswersStep (λ new. view_column true new) (view_column true array) (Append rows.now) result }
+{
+    Column::known(&array);
+    if !are_texts(rows) {
+        return Err(Cause::InvalidUtf8.into());
+    }
+    if !are_of_view(rows) {
+        return Err(Cause::Overflow.into());
+    }
+    let bytes = views_with_rows(alloc, array.into_binview(), rows)?;
+    bytes.known();
+    let texts = bytes.to_utf8view_unchecked(alloc)?;
+    Column::known(&texts);
+    Ok(texts)
+}
+
+// ---- with a width
+
+fn append_fixed(
+    alloc: Global,
+    array: FixedSizeBinaryArray,
+    rows: &Rows,
+) -> Result<FixedSizeBinaryArray, PolarsError>
+    ensures { AnswersStep (λ new. fixed_column new) (fixed_column array) (Append rows.now) result }
+{
+    let width = array.size();
+    if !are_of_width(rows, width) {
+        return Err(Cause::WrongLength.into());
+    }
+    if !have_room(array.len(), rows.len(), width) {
+        return Err(Cause::Overflow.into());
+    }
+    let new = fixed_with_rows(alloc, array, rows)?;
+    Column::known(&new);
+    Ok(new)
+}
+
+/// Whether so many slots and so many more, of a width each, have fewer than 2 ^ 64 bytes.
+#[tactic(auto, using(crate::proofs::AppendLemmas::none_fits))]
+fn have_room(slots: usize, more: usize, width: usize) -> bool
+    requires { 0 < width }
+    ensures { result ≡ nat_lt ((slots + more) * width) (2 ^ 64) }
+{
+    match slots.checked_add(more) {
+        Some(all) => all.checked_mul(width).is_some(),
+        None => false,
+    }
+}
+
+fn append_numbers(alloc: Global, array: Int64Array, rows: &Rows) -> Result<Int64Array, PolarsError>
+    ensures { AnswersStep (λ new. number_column new) (number_column array) (Append rows.now) result }
+{
+    if !are_of_width(rows, 8) {
+        return Err(Cause::WrongLength.into());
+    }
+    let new = numbers_with_rows(alloc, array, rows)?;
+    Column::known(&new);
+    Ok(new)
 }

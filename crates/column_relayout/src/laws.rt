@@ -1,11 +1,15 @@
 //! Laws of raw columns and of plans.
 
-ghost use Rattle.std.specs.Prelude.{◌≡◌, ◌↔◌, Bool, false, None, List, [], ◌∷◌, ◌++◌};
+ghost use Rattle.std.specs.Prelude.{◌≡◌, ◌↔◌, Bool, false, None, List, [], ◌∷◌, ◌++◌, length};
+ghost use Rattle.std.specs.List.{range_with_len};
 ghost use Rattle.column_base.specs.Kinds.{Slot};
 ghost use Rattle.column_binary.specs.Slots.{offset_slots};
+ghost use Rattle.column_binview.specs.Slots.{ViewLists};
+ghost use Rattle.column_deduped.specs.Deduped.{named};
 ghost use Rattle.column_relayout.specs.declared.steps.Step.{Step};
+ghost use Rattle.column_relayout.specs.declared.steps.Step.TheVariants.{Dedupe};
 ghost use Rattle.column_relayout.specs.Kinds.{offset_kind};
-ghost use Rattle.column_relayout.specs.Columns.{RawLists, offset_column, column_kind, slots_of, parts_fault, IsWithinType, IsWellFormed, shared_bytes};
+ghost use Rattle.column_relayout.specs.Columns.{RawLists, offset_column, view_column, column_kind, slots_of, parts_fault, IsWithinType, IsWellFormed, shared_bytes};
 ghost use Rattle.column_relayout.specs.Plans.{leads, plan_meaning, is_light, IsLight, light_lists};
 ghost use Rattle.column_relayout.specs.Steps.{StepsTo, Relays};
 ghost use Rattle.column_relayout.specs.Written.{written_lists};
@@ -41,11 +45,12 @@ pub fn light_plans_cut_once()
 {}
 
 /// A light plan keeps the bytes that slots share whole: the value bytes of a column with offsets, the buffers of one
-/// with views. Slots of one length share none.
-#[tactic(auto, using(crate::proofs::PlansLemmas::light_keeps))]
+/// with views. Slots of one length share none. So do the light steps after a step, of the lists that it left.
+#[tactic(auto, using(crate::proofs::PlansLemmas::light_keeps, crate::proofs::PlansLemmas::shared_steps))]
 pub fn light_plans_keep_bytes()
-    ensures { (parts column : RawLists) (plan : List Step) → Relays parts plan column → IsLight plan
+    ensures plan { (parts column : RawLists) (plan : List Step) → Relays parts plan column → IsLight plan
         → shared_bytes column ≡ shared_bytes parts }
+    ensures lists { (column : RawLists) (plan : List Step) → shared_bytes (light_lists column plan) ≡ shared_bytes column }
 {}
 
 /// What the last step promises, it promises of some column before it.
@@ -77,6 +82,15 @@ pub fn light_steps_cut_what_was_written()
         → Relays parts (plan ++ step ∷ light) column → is_light step ≡ false → IsLight light
         → plan_meaning parts (plan ++ step ∷ []) ≡ leads (offset_kind large text) slots
         → column ≡ light_lists (offset_column large text (written_lists slots)) light }
+{}
+
+/// After a plan that ends with a deduplication the indexes that long views hold are, each once and in the order of first
+/// naming, the numbers from 0 up to, not with, the number of buffers.
+#[tactic(auto, using(crate::proofs::PlansLemmas::last_dedupe))]
+pub fn last_dedupe_names_all_buffers()
+    ensures { (parts : RawLists) (plan : List Step) (text : Bool) (lists : ViewLists) → IsWellFormed parts
+        → Relays parts (plan ++ Dedupe ∷ []) (view_column text lists)
+        → named lists.views ≡ range_with_len 0 (length lists.buffers) }
 {}
 
 /// What slots are written to means these slots.

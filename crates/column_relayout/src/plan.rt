@@ -10,6 +10,7 @@ use crate::assembly::assemble;
 use crate::columns::{AnyArray, ColumnError, RawColumn};
 use crate::conversion::{step_to_binary, step_to_utf8};
 use crate::cut::{step_left, step_right, step_slice};
+use crate::gather::{step_dedupe, step_gc};
 use crate::rebuild::step_rebuild;
 use crate::steps::Step;
 use column_base::PolarsError;
@@ -18,8 +19,10 @@ use std::alloc::Global;
 /// The column that the plan's steps make of the parts, one after the other. The parts are consumed on every answer.
 ///
 /// `Parts` with the parts' first fault, or else `Step` with the number, counted from 0, of the first step that is
-/// refused, and its cause. A plan of light steps takes no memory, and its column shares the parts' value bytes.
-/// `NoMemory` comes only where a heavy step is reached, and no step up to and with it is refused.
+/// refused, and its cause. `Overflow` comes besides only at a step that writes behind views, where the buffers of the parts
+/// and one for each value of more than 12 bytes that steps wrote so far are more than there may be buffers. A plan of light
+/// steps takes no memory, and its column shares the parts' value bytes or buffers. `NoMemory` comes only where a heavy step
+/// is reached, and no step up to and with it has a fault.
 #[tactic(auto, using(crate::proofs::PlansLemmas::plan_laws))]
 pub fn relayout(alloc: Global, parts: RawColumn, plan: &[Step]) -> Result<AnyArray, ColumnError>
     ensures answer { Relayouts (lists_of_parts parts) plan.now result }
@@ -61,6 +64,8 @@ fn apply(alloc: Global, column: AnyArray, step: &Step) -> Result<AnyArray, Polar
         Step::Right(count) => Ok(step_right(column, *count)?),
         Step::ToUtf8 => Ok(step_to_utf8(column)?),
         Step::ToBinary => Ok(step_to_binary(column)?),
+        Step::Gc => step_gc(alloc, column),
+        Step::Dedupe => step_dedupe(alloc, column),
         Step::Append(rows) => step_append(alloc, column, rows),
         Step::Rebuild(kind) => step_rebuild(alloc, column, *kind),
     }

@@ -3,30 +3,37 @@
 ghost use Rattle.std.specs.Prelude.{◌≡◌, ◌≤◌, true, false, None, Some};
 ghost use Rattle.column_base.specs.Answers.{Answers, AnswersFirst};
 ghost use Rattle.column_binary.specs.Slots.{offset_slots};
+ghost use Rattle.column_binview.specs.Slots.{view_slots};
 ghost use Rattle.column_relayout.specs.declared.steps.Step.TheVariants.{Rebuild};
 ghost use Rattle.column_relayout.specs.Kinds.{kind_of, offset_kind};
-ghost use Rattle.column_relayout.specs.Columns.{offset_column};
-ghost use Rattle.column_relayout.specs.Written.{bytes_in, written_slots, written_lists, room_fault, HoldSlots};
+ghost use Rattle.column_relayout.specs.Columns.{offset_column, view_column, number_column};
+ghost use Rattle.column_relayout.specs.Written.{bytes_in, written_slots, written_lists, bytes_fault, HoldSlots};
 ghost use Rattle.column_relayout.specs.Arrays.{lists_of};
 ghost use Rattle.column_relayout.specs.Relayouts.{AnswersStep, StepAnswers};
 
 use crate::arrays::Column;
 use crate::columns::AnyArray;
 use crate::kind::Kind;
+use crate::write_rows::{rows_builder, write_cause, write_rows, written};
 use crate::written::{taken_over, used_bytes};
 use column_base::{Cause, Offset, PolarsError};
 use column_binary::{BinaryArray, MutableBinaryArray};
+use column_binview::Utf8ViewArray;
+use column_primitive::Int64Array;
+use column_rows::bytes_of_numbers;
 use column_utf8::Utf8Array;
 use std::alloc::Global;
 
-/// The valid slots as they are, and null ones without bytes, in a column of the kind, whose lists are new. The column
-/// is consumed.
+/// The valid slots as they are, and null ones with zeros where the kind has a width and else without bytes, in a column of
+/// the kind, whose lists are new. The column is consumed.
 ///
-/// `WrongKind` where the kind or the column has no offsets, since views, byte strings of one width and numbers are
-/// neither written nor rewritten yet, and where the kind is one of texts and the column is not; and else `Overflow`
-/// where the bytes of the valid slots together pass the kind's greatest offset. `NoMemory` where there is none for the
-/// lists, and never where there is a cause.
-#[tactic(auto, using(crate::proofs::StepsLemmas::rebuild_faults))]
+/// `SizeZero` where the kind is one of byte strings of no bytes, and else `WrongKind` where it is one of texts and the
+/// column is not. Else `WrongLength` where the kind has a width, of 8 bytes for numbers, and a valid slot has another
+/// length. Else `Overflow`: into offsets where the bytes of the valid slots together pass the greatest offset, into byte
+/// strings of one width where all slots have 2 ^ 64 bytes or more together, into views where a valid slot has 2 ^ 32 bytes
+/// or more, or else only where more valid slots have more than 12 bytes than there may be buffers. `NoMemory` where there
+/// is none for the lists, and never where there is a cause but for the number of buffers.
+#[tactic(auto, using(crate::proofs::RebuildLemmas::rows_answer))]
 pub fn step_rebuild(alloc: Global, column: AnyArray, kind: Kind) -> Result<AnyArray, PolarsError>
     ensures { StepAnswers (lists_of column) (Rebuild kind) result }
 {
@@ -35,14 +42,14 @@ pub fn step_rebuild(alloc: Global, column: AnyArray, kind: Kind) -> Result<AnyAr
         AnyArray::Binary64(array) => rebuild_bytes(alloc, array, kind),
         AnyArray::Utf8_32(array) => rebuild_texts(alloc, array, kind),
         AnyArray::Utf8_64(array) => rebuild_texts(alloc, array, kind),
-        AnyArray::BinView(_) => Err(Cause::WrongKind.into()),
-        AnyArray::Utf8View(_) => Err(Cause::WrongKind.into()),
-        AnyArray::Fixed(_) => Err(Cause::WrongKind.into()),
-        AnyArray::Int64(_) => Err(Cause::WrongKind.into()),
+        AnyArray::BinView(array) => write_rows(alloc, &array, false, kind),
+        AnyArray::Utf8View(array) => rebuild_text_views(alloc, array, kind),
+        AnyArray::Fixed(array) => write_rows(alloc, &array, false, kind),
+        AnyArray::Int64(array) => rebuild_numbers(alloc, &array, kind),
     }
 }
 
-#[tactic(auto, using(crate::proofs::StepsLemmas::rebuild_faults))]
+#[tactic(auto, using(crate::proofs::RebuildLemmas::bytes_answer))]
 fn rebuild_bytes<O: Offset>(
     alloc: Global,
     array: BinaryArray<O>,
@@ -54,13 +61,13 @@ fn rebuild_bytes<O: Offset>(
         Kind::Binary32 => Ok(AnyArray::Binary32(bytes_to_bytes(alloc, array, kind)?)),
         Kind::Binary64 => Ok(AnyArray::Binary64(bytes_to_bytes(alloc, array, kind)?)),
         Kind::Utf8_32 | Kind::Utf8_64 | Kind::BinView | Kind::Utf8View => {
-            Err(Cause::WrongKind.into())
+            write_rows(alloc, &array, false, kind)
         }
-        Kind::Fixed(_) | Kind::Int64 => Err(Cause::WrongKind.into()),
+        Kind::Fixed(_) | Kind::Int64 => write_rows(alloc, &array, false, kind),
     }
 }
 
-#[tactic(auto, using(crate::proofs::StepsLemmas::rebuild_faults))]
+#[tactic(auto, using(crate::proofs::RebuildLemmas::bytes_answer))]
 fn rebuild_texts<O: Offset>(
     alloc: Global,
     array: Utf8Array<O>,
@@ -73,8 +80,45 @@ fn rebuild_texts<O: Offset>(
         Kind::Binary64 => Ok(AnyArray::Binary64(texts_to_bytes(alloc, array, kind)?)),
         Kind::Utf8_32 => Ok(AnyArray::Utf8_32(texts_to_texts(alloc, array, kind)?)),
         Kind::Utf8_64 => Ok(AnyArray::Utf8_64(texts_to_texts(alloc, array, kind)?)),
-        Kind::BinView | Kind::Utf8View => Err(Cause::WrongKind.into()),
-        Kind::Fixed(_) | Kind::Int64 => Err(Cause::WrongKind.into()),
+        Kind::BinView | Kind::Utf8View | Kind::Fixed(_) | Kind::Int64 => {
+            texts_to_others(alloc, array, kind)
+        }
+    }
+}
+
+fn texts_to_others<O: Offset>(
+    alloc: Global,
+    array: Utf8Array<O>,
+    kind: Kind,
+) -> Result<AnyArray, PolarsError>
+    ensures { StepAnswers (offset_column O.IS_LARGE true array) (Rebuild kind) result }
+{
+    array.known();
+    let bytes = array.into_binary();
+    write_rows(alloc, &bytes, true, kind)
+}
+
+fn rebuild_text_views(
+    alloc: Global,
+    array: Utf8ViewArray,
+    kind: Kind,
+) -> Result<AnyArray, PolarsError>
+    ensures { StepAnswers (view_column true array) (Rebuild kind) result }
+{
+    Column::known(&array);
+    let bytes = array.into_binview();
+    write_rows(alloc, &bytes, true, kind)
+}
+
+fn rebuild_numbers(alloc: Global, array: &Int64Array, kind: Kind) -> Result<AnyArray, PolarsError>
+    ensures { StepAnswers (number_column array.now) (Rebuild kind) result }
+{
+    match write_cause(array, false, kind) {
+        Some(cause) => Err(cause.into()),
+        None => {
+            let bytes = bytes_of_numbers(alloc, array)?;
+            written(alloc, &bytes, false, kind)
+        }
     }
 }
 
@@ -131,7 +175,7 @@ fn rewritten<O: Offset, P: Offset>(
     alloc: Global,
     array: &BinaryArray<O>,
 ) -> Result<BinaryArray<P>, PolarsError>
-    ensures { let slots = written_slots (offset_slots array.now) in AnswersFirst result (room_fault (Some P.GREATEST) slots) (λ new. new ≡ written_lists slots) }
+    ensures { let slots = written_slots (offset_slots array.now) in AnswersFirst result (bytes_fault (Some P.GREATEST) slots) (λ new. new ≡ written_lists slots) }
 {
     let bytes = valid_bytes(array);
     if bytes > P::GREATEST {
@@ -166,7 +210,7 @@ fn valid_slots<O: Offset, P: Offset>(
     if bytes == used_bytes(array).len() {
         taken_over(alloc, array, 0, 0)
     } else {
-        valid_rows(alloc, array, bytes)
+        rows_builder(alloc, array, bytes)
     }
 }
 
@@ -184,21 +228,4 @@ fn valid_bytes<O: Offset>(array: &BinaryArray<O>) -> usize
         }
     }
     bytes
-}
-
-/// A builder of the rows, slot by slot.
-fn valid_rows<O: Offset, P: Offset>(
-    alloc: Global,
-    array: &BinaryArray<O>,
-    bytes: usize,
-) -> Result<MutableBinaryArray<P>, PolarsError>
-    requires { bytes_in (written_slots (offset_slots array.now)) ≤ P.GREATEST }
-    ensures { Answers result None (λ builder. HoldSlots builder.lists (written_slots (offset_slots array.now))) }
-{
-    let mut builder = MutableBinaryArray::with_capacities(alloc, array.len(), bytes)?;
-    for i in 0..array.len() {
-        builder.push(array.get(i))?;
-    }
-    builder.known();
-    Ok(builder)
 }

@@ -5,6 +5,7 @@ ghost use Rattle.std.specs.Option.{option_copied};
 ghost use Rattle.column_base.specs.Answers.{Answers};
 
 use column_base::PolarsError;
+use column_rows::{ByteRows, RowList};
 use std::alloc::Global;
 use std::marker::Model;
 
@@ -30,6 +31,13 @@ impl Rows {
         Rows {
             rows: Vec::new(alloc),
         }
+    }
+
+    /// These rows. Takes no memory.
+    pub fn from_vec(rows: Vec<Option<Vec<u8>>>) -> Self
+        ensures { result ≡ map (option_map (λ bytes. bytes.items)) rows.items }
+    {
+        Rows { rows }
     }
 
     /// Adds a row, whose bytes are copied.
@@ -77,5 +85,26 @@ impl Rows {
         ensures { map (option_map (λ bytes. bytes.items)) result.now ≡ self.now }
     {
         self.rows.as_slice()
+    }
+}
+
+impl RowList for Rows {
+    ghost rows = { λ rows. rows };
+
+    fn count(&self) -> usize {
+        self.len()
+    }
+
+    fn row_length(&self, i: usize) -> Option<usize> {
+        match self.get(i) {
+            Some(bytes) => Some(bytes.len()),
+            None => None,
+        }
+    }
+}
+
+impl ByteRows for Rows {
+    fn row(&self, i: usize) -> Option<&[u8]> {
+        self.get(i)
     }
 }

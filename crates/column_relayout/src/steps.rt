@@ -20,12 +20,22 @@ pub enum Step {
     ToUtf8,
     /// The same slots as byte strings, in the same layout. Refused with `WrongKind` off texts.
     ToBinary,
-    /// The old slots, and after them one of each row, written anew. Refused with `WrongKind` where the column has no
-    /// offsets, else with `InvalidUtf8` where the slots are texts and a row is not UTF-8, and else with `Overflow`
-    /// where all bytes together pass the greatest offset.
+    /// The same slots over buffers that are, end to end, the slots of more than 12 bytes, null ones too; a column without
+    /// buffers stays as it is. Refused with `WrongKind` where the column has no views, and with `Overflow` only where more
+    /// such slots are there than there may be buffers.
+    Gc,
+    /// The same slots over the buffers that views of more than 12 bytes name, each once, in the order of first naming.
+    /// Refused with `WrongKind` where the column has no views.
+    Dedupe,
+    /// The old slots, and after them one of each row, null where the row is missing, then with zeros where slots have a
+    /// width and else without bytes. Refused with `InvalidUtf8` where the slots are texts and a row is not UTF-8, else with
+    /// `WrongLength` where slots have a width, of 8 bytes for numbers, and a row has another length, and else with
+    /// `Overflow` where all bytes together pass the greatest offset, all slots of one width have 2 ^ 64 bytes or more, or
+    /// with views a row has 2 ^ 32 bytes or more, or buffers and long rows are more than there may be buffers.
     Append(Rows),
-    /// The valid slots as they are and null ones without bytes, as a column of the kind, written anew. Refused with
-    /// `WrongKind` where the column or the kind has no offsets, or the kind is one of texts and the slots are not, and
-    /// else with `Overflow` where the bytes of the valid slots together pass the kind's greatest offset.
+    /// The valid slots as they are and null ones as [`Step::Append`] writes them, as a column of the kind, written anew.
+    /// Refused with `SizeZero` where the kind is one of byte strings of no bytes, else with `WrongKind` where it is one of
+    /// texts and the slots are not, else with `WrongLength` where it has a width, of 8 bytes for numbers, and a valid slot
+    /// has another length, and else with `Overflow` as an append is, of the slots that are written.
     Rebuild(Kind),
 }

@@ -1,14 +1,23 @@
-//! What columns, steps and plans are seen to give: one bool for each, and no assertion.
+//! What columns, steps and plans are seen to give: one truth value for each, and no assertion.
 
-use crate::cases::Light::{self, Left, Right, Slice, ToBinary, ToUtf8};
-use crate::cases::{Lists, Span, kind_by, part_of, parts, plan_of, span_of, three, wide_parts};
-use column_base::{Cause, PolarsError};
-use column_checks::{Flags, flags_are};
-use column_relayout::{
-    AnyArray, ColumnError, Kind, assemble, relayout, step_left, step_right, step_slice,
-    step_to_binary, step_to_utf8,
+use crate::cases::ColumnLists::{
+    self, BinView, Binary32, Binary64, Fixed, Int64, Utf8_32, Utf8_64, Utf8View,
 };
-use column_storage::Bitmap;
+use crate::cases::Planned::{
+    self, Append, Dedupe, Gc, Left, Rebuild, Right, Slice, ToBinary, ToUtf8,
+};
+use crate::cases::{
+    Lists, Span, kind_in, of_offsets, part_of, parts_of, plan_of, rows_of, wide_parts,
+};
+use column_base::{ArrowDataType, Cause, PolarsError};
+use column_checks::flags_are;
+use column_deduped::deduped;
+use column_relayout::{
+    AnyArray, ColumnError, Kind, Rows, assemble, relayout, step_append, step_dedupe, step_gc,
+    step_left, step_rebuild, step_right, step_slice, step_to_binary, step_to_utf8,
+};
+use column_storage::{Bitmap, DataBuffers};
+use column_view::View;
 use std::alloc::Global;
 
 pub fn words_are() -> bool {
@@ -24,14 +33,7 @@ pub fn words_are() -> bool {
 
 // ---- lists
 
-fn wide_are(offsets: &[i64], wanted: &[i32]) -> bool {
-    offsets
-        .iter()
-        .copied()
-        .eq(wanted.iter().map(|offset| i64::from(*offset)))
-}
-
-pub fn kind_of(column: &AnyArray) -> Kind {
+fn kind_of(column: &AnyArray) -> Kind {
     match column {
         AnyArray::Binary32(_) => Kind::Binary32,
         AnyArray::Binary64(_) => Kind::Binary64,
@@ -42,6 +44,13 @@ pub fn kind_of(column: &AnyArray) -> Kind {
         AnyArray::Fixed(array) => Kind::Fixed(array.size()),
         AnyArray::Int64(_) => Kind::Int64,
     }
+}
+
+fn wide_are(offsets: &[i64], wanted: &[i32]) -> bool {
+    offsets
+        .iter()
+        .copied()
+        .eq(wanted.iter().map(|offset| i64::from(*offset)))
 }
 
 fn offsets_are(column: &AnyArray, wanted: &[i32]) -> bool {
@@ -60,6 +69,7 @@ fn values_of(column: &AnyArray) -> &[u8] {
         AnyArray::Binary64(array) => array.values().as_slice(),
         AnyArray::Utf8_32(array) => array.values().as_slice(),
         AnyArray::Utf8_64(array) => array.values().as_slice(),
+        AnyArray::Fixed(array) => array.values().as_slice(),
         _ => &[],
     }
 }
@@ -77,166 +87,105 @@ fn validity_of(column: &AnyArray) -> Option<&Bitmap> {
     }
 }
 
+fn views_are(views: &[View], wanted: &[&[u8; 16]]) -> bool {
+    if views.len() != wanted.len() {
+        return false;
+    }
+    for i in 0..wanted.len() {
+        if views[i].to_le() != *wanted[i] {
+            return false;
+        }
+    }
+    true
+}
+
+fn buffers_are(buffers: &DataBuffers, wanted: &[&[u8]]) -> bool {
+    if buffers.len() != wanted.len() {
+        return false;
+    }
+    for i in 0..wanted.len() {
+        if buffers.get(i).as_slice() != wanted[i] {
+            return false;
+        }
+    }
+    true
+}
+
+fn view_lists_are(column: &AnyArray, views: &[&[u8; 16]], buffers: &[&[u8]]) -> bool {
+    match column {
+        AnyArray::BinView(array) => {
+            views_are(array.views().as_slice(), views) && buffers_are(array.data_buffers(), buffers)
+        }
+        AnyArray::Utf8View(array) => {
+            views_are(array.views().as_slice(), views) && buffers_are(array.data_buffers(), buffers)
+        }
+        _ => false,
+    }
+}
+
+fn numbers_are(column: &AnyArray, numbers: &[i64]) -> bool {
+    match column {
+        AnyArray::Int64(array) => {
+            array.dtype() == ArrowDataType::Int64 && array.values().as_slice() == numbers
+        }
+        _ => false,
+    }
+}
+
+fn lists_are(column: &AnyArray, wanted: ColumnLists<'_>) -> bool {
+    match wanted {
+        Binary32(offsets, values, flags)
+        | Binary64(offsets, values, flags)
+        | Utf8_32(offsets, values, flags)
+        | Utf8_64(offsets, values, flags) => {
+            offsets_are(column, offsets)
+                && values_of(column) == values
+                && flags_are(validity_of(column), flags)
+        }
+        BinView(views, buffers, flags) | Utf8View(views, buffers, flags) => {
+            view_lists_are(column, views, buffers) && flags_are(validity_of(column), flags)
+        }
+        Fixed(_, values, flags) => {
+            values_of(column) == values && flags_are(validity_of(column), flags)
+        }
+        Int64(numbers, flags) => {
+            numbers_are(column, numbers) && flags_are(validity_of(column), flags)
+        }
+    }
+}
+
 /// Whether the column has this kind and these lists.
-pub fn column_is(column: &AnyArray, kind: Kind, wanted: &Lists<'_>) -> bool {
-    kind_of(column) == kind
-        && offsets_are(column, wanted.offsets)
-        && values_of(column) == wanted.values
-        && flags_are(validity_of(column), wanted.flags)
+fn column_is(column: &AnyArray, wanted: ColumnLists<'_>) -> bool {
+    kind_of(column) == kind_in(wanted) && lists_are(column, wanted)
 }
 
-// ---- answers
-
-/// A column of this width, byte strings or texts.
-#[derive(Clone, Copy)]
-struct Shape {
-    large: bool,
-    text: bool,
-}
-
-fn shape_of(large: bool, text: bool) -> Shape {
-    Shape { large, text }
-}
+// ---- parts
 
 fn assembled_is(
     alloc: Global,
-    of: Shape,
-    own: Lists<'_>,
+    own: ColumnLists<'_>,
     fault: Option<Cause>,
 ) -> Result<bool, PolarsError> {
-    match assemble(parts(alloc, of.large, of.text, own)?) {
-        Ok(column) => Ok(fault.is_none() && column_is(&column, kind_by(of.large, of.text), &own)),
+    match assemble(parts_of(alloc, own)?) {
+        Ok(column) => Ok(fault.is_none() && column_is(&column, own)),
         Err(cause) => Ok(fault == Some(cause)),
     }
 }
 
-// what the plan answers
-fn answer(
-    alloc: Global,
-    of: Shape,
-    own: Lists<'_>,
-    plan: &[Light],
-) -> Result<Result<AnyArray, ColumnError>, PolarsError> {
-    let plan = plan_of(alloc, plan)?;
-    let parts = parts(alloc, of.large, of.text, own)?;
-    Ok(relayout(alloc, parts, &plan))
-}
-
-/// Whether the plan leads to these texts, or byte strings.
-fn leads(
-    alloc: Global,
-    of: Shape,
-    own: Lists<'_>,
-    plan: &[Light],
-    text: bool,
-    wanted: Lists<'_>,
-) -> Result<bool, PolarsError> {
-    match answer(alloc, of, own, plan)? {
-        Ok(column) => Ok(column_is(&column, kind_by(of.large, text), &wanted)),
-        Err(_) => Ok(false),
-    }
-}
-
-/// Whether the plan is refused so.
-fn refuses(
-    alloc: Global,
-    of: Shape,
-    own: Lists<'_>,
-    plan: &[Light],
-    refusal: ColumnError,
-) -> Result<bool, PolarsError> {
-    Ok(answer(alloc, of, own, plan)?.err() == Some(refusal))
-}
-
-// ---- parts, in each kind
-
 /// Whether the lists become a column, by themselves and by a plan without steps, or are refused so. A refusal of parts
 /// comes before one of a step.
-fn is_told(
+pub fn parts_are_told(
     alloc: Global,
-    of: Shape,
-    own: Lists<'_>,
+    own: ColumnLists<'_>,
     fault: Option<Cause>,
 ) -> Result<bool, PolarsError> {
     match fault {
         Some(cause) => Ok(
-            assembled_is(alloc, of, own, fault)?
-                && refuses(alloc, of, own, &[Left(9)], ColumnError::Parts(cause))?,
+            assembled_is(alloc, own, fault)?
+                && plan_refuses(alloc, own, &[Left(9)], ColumnError::Parts(cause))?,
         ),
-        None => Ok(
-            assembled_is(alloc, of, own, fault)? && leads(alloc, of, own, &[], of.text, own)?,
-        ),
+        None => Ok(assembled_is(alloc, own, fault)? && plan_leads(alloc, own, &[], own)?),
     }
-}
-
-/// Whether byte strings of these lists are none of texts, and become texts, and byte strings again, or are refused so.
-fn converts(
-    alloc: Global,
-    large: bool,
-    own: Lists<'_>,
-    fault: Option<Cause>,
-) -> Result<bool, PolarsError> {
-    let bytes = shape_of(large, false);
-    let no_texts = refuses(
-        alloc,
-        bytes,
-        own,
-        &[ToBinary],
-        ColumnError::Step(0, Cause::WrongKind),
-    )?;
-    match fault {
-        Some(cause) => {
-            Ok(no_texts && refuses(alloc, bytes, own, &[ToUtf8], ColumnError::Step(0, cause))?)
-        }
-        None => Ok(
-            no_texts
-                && leads(alloc, bytes, own, &[ToUtf8], true, own)?
-                && leads(alloc, bytes, own, &[ToUtf8, ToBinary], false, own)?,
-        ),
-    }
-}
-
-/// Whether texts of these lists are no byte strings, and become them.
-fn converts_back(alloc: Global, large: bool, own: Lists<'_>) -> Result<bool, PolarsError> {
-    let texts = shape_of(large, true);
-    Ok(
-        refuses(
-            alloc,
-            texts,
-            own,
-            &[ToUtf8],
-            ColumnError::Step(0, Cause::WrongKind),
-        )? && leads(alloc, texts, own, &[ToBinary], false, own)?,
-    )
-}
-
-/// Whether byte strings and texts of these lists become columns, or are refused so.
-pub fn all_are_told(
-    alloc: Global,
-    own: Lists<'_>,
-    of_bytes: Option<Cause>,
-    of_texts: Option<Cause>,
-) -> Result<bool, PolarsError> {
-    Ok(
-        is_told(alloc, shape_of(false, false), own, of_bytes)?
-            && is_told(alloc, shape_of(true, false), own, of_bytes)?
-            && is_told(alloc, shape_of(false, true), own, of_texts)?
-            && is_told(alloc, shape_of(true, true), own, of_texts)?,
-    )
-}
-
-/// Whether columns of these lists convert; byte strings are refused so as texts.
-pub fn all_convert(
-    alloc: Global,
-    own: Lists<'_>,
-    fault: Option<Cause>,
-) -> Result<bool, PolarsError> {
-    Ok(
-        converts(alloc, false, own, fault)?
-            && converts(alloc, true, own, fault)?
-            && (fault.is_some() || converts_back(alloc, false, own)?)
-            && (fault.is_some() || converts_back(alloc, true, own)?),
-    )
 }
 
 /// Whether byte strings and texts of these offsets of 64 bits are refused so.
@@ -250,64 +199,300 @@ pub fn wide_is_told(
     Ok(assemble(parts).err() == Some(cause))
 }
 
-// ---- plans, with both widths
+// ---- plans
+
+fn is_led(answer: Result<AnyArray, ColumnError>, wanted: ColumnLists<'_>) -> bool {
+    match answer {
+        Ok(column) => column_is(&column, wanted),
+        Err(_) => false,
+    }
+}
+
+/// Whether the plan leads to a column of these lists.
+pub fn plan_leads(
+    alloc: Global,
+    own: ColumnLists<'_>,
+    plan: &[Planned<'_>],
+    wanted: ColumnLists<'_>,
+) -> Result<bool, PolarsError> {
+    let plan = plan_of(alloc, plan)?;
+    let parts = parts_of(alloc, own)?;
+    Ok(is_led(relayout(alloc, parts, &plan), wanted))
+}
+
+/// Whether the plan is refused so.
+pub fn plan_refuses(
+    alloc: Global,
+    own: ColumnLists<'_>,
+    plan: &[Planned<'_>],
+    refusal: ColumnError,
+) -> Result<bool, PolarsError> {
+    let plan = plan_of(alloc, plan)?;
+    let parts = parts_of(alloc, own)?;
+    Ok(relayout(alloc, parts, &plan).err() == Some(refusal))
+}
+
+// ---- steps, by their calls and by plans of one
+
+fn column_of(alloc: Global, own: ColumnLists<'_>) -> Result<AnyArray, PolarsError> {
+    let column = assemble(parts_of(alloc, own)?)?;
+    column.known();
+    Ok(column)
+}
+
+fn followed(
+    alloc: Global,
+    column: AnyArray,
+    given: &[Option<&[u8]>],
+) -> Result<AnyArray, PolarsError> {
+    let rows = rows_of(alloc, given)?;
+    step_append(alloc, column, &rows)
+}
+
+fn by_its_call(
+    alloc: Global,
+    column: AnyArray,
+    step: Planned<'_>,
+) -> Result<AnyArray, PolarsError> {
+    match step {
+        Slice(offset, length) => Ok(step_slice(column, offset, length)?),
+        Left(count) => Ok(step_left(column, count)?),
+        Right(count) => Ok(step_right(column, count)?),
+        ToUtf8 => Ok(step_to_utf8(column)?),
+        ToBinary => Ok(step_to_binary(column)?),
+        Gc => step_gc(alloc, column),
+        Dedupe => step_dedupe(alloc, column),
+        Append(rows) => followed(alloc, column, rows),
+        Rebuild(kind) => step_rebuild(alloc, column, kind),
+    }
+}
+
+fn is_left(answer: Result<AnyArray, PolarsError>, wanted: ColumnLists<'_>) -> bool {
+    match answer {
+        Ok(column) => column_is(&column, wanted),
+        Err(_) => false,
+    }
+}
+
+fn call_leads(
+    alloc: Global,
+    own: ColumnLists<'_>,
+    step: Planned<'_>,
+    wanted: ColumnLists<'_>,
+) -> Result<bool, PolarsError> {
+    let column = column_of(alloc, own)?;
+    Ok(is_left(by_its_call(alloc, column, step), wanted))
+}
+
+fn call_refuses(
+    alloc: Global,
+    own: ColumnLists<'_>,
+    step: Planned<'_>,
+    error: PolarsError,
+) -> Result<bool, PolarsError> {
+    let column = column_of(alloc, own)?;
+    Ok(by_its_call(alloc, column, step).err() == Some(error))
+}
+
+/// Whether the step leaves a column of these lists.
+pub fn step_leads(
+    alloc: Global,
+    own: ColumnLists<'_>,
+    step: Planned<'_>,
+    wanted: ColumnLists<'_>,
+) -> Result<bool, PolarsError> {
+    Ok(call_leads(alloc, own, step, wanted)? && plan_leads(alloc, own, &[step], wanted)?)
+}
+
+/// Whether the step is refused so.
+pub fn step_refuses(
+    alloc: Global,
+    own: ColumnLists<'_>,
+    step: Planned<'_>,
+    cause: Cause,
+) -> Result<bool, PolarsError> {
+    Ok(
+        call_refuses(alloc, own, step, cause.into())?
+            && plan_refuses(alloc, own, &[step], ColumnError::Step(0, cause))?,
+    )
+}
+
+/// Whether the step finds no memory.
+pub fn step_wants_memory(
+    alloc: Global,
+    own: ColumnLists<'_>,
+    step: Planned<'_>,
+) -> Result<bool, PolarsError> {
+    Ok(
+        call_refuses(alloc, own, step, PolarsError::NoMemory)?
+            && plan_refuses(alloc, own, &[step], ColumnError::NoMemory)?,
+    )
+}
+
+// ---- byte strings and texts, with offsets of both widths
+
+/// Whether byte strings and texts of these lists become columns, or are refused so.
+pub fn all_are_told(
+    alloc: Global,
+    own: Lists<'_>,
+    of_bytes: Option<Cause>,
+    of_texts: Option<Cause>,
+) -> Result<bool, PolarsError> {
+    Ok(
+        parts_are_told(alloc, of_offsets(false, false, own), of_bytes)?
+            && parts_are_told(alloc, of_offsets(true, false, own), of_bytes)?
+            && parts_are_told(alloc, of_offsets(false, true, own), of_texts)?
+            && parts_are_told(alloc, of_offsets(true, true, own), of_texts)?,
+    )
+}
+
+/// Whether byte strings are none of texts, and become texts, and byte strings again, or are refused so.
+pub fn converts(
+    alloc: Global,
+    bytes: ColumnLists<'_>,
+    texts: ColumnLists<'_>,
+    fault: Option<Cause>,
+) -> Result<bool, PolarsError> {
+    let no_texts = step_refuses(alloc, bytes, ToBinary, Cause::WrongKind)?;
+    match fault {
+        Some(cause) => Ok(no_texts && step_refuses(alloc, bytes, ToUtf8, cause)?),
+        None => Ok(
+            no_texts
+                && step_leads(alloc, bytes, ToUtf8, texts)?
+                && plan_leads(alloc, bytes, &[ToUtf8, ToBinary], bytes)?
+                && converts_back(alloc, bytes, texts)?,
+        ),
+    }
+}
+
+// Whether texts are no byte strings, and become them, and texts again.
+fn converts_back(
+    alloc: Global,
+    bytes: ColumnLists<'_>,
+    texts: ColumnLists<'_>,
+) -> Result<bool, PolarsError> {
+    Ok(
+        step_refuses(alloc, texts, ToUtf8, Cause::WrongKind)?
+            && step_leads(alloc, texts, ToBinary, bytes)?
+            && plan_leads(alloc, texts, &[ToBinary, ToUtf8], texts)?,
+    )
+}
+
+/// Whether columns of these lists convert; byte strings are refused so as texts.
+pub fn all_convert(
+    alloc: Global,
+    own: Lists<'_>,
+    fault: Option<Cause>,
+) -> Result<bool, PolarsError> {
+    Ok(
+        converts(
+            alloc,
+            of_offsets(false, false, own),
+            of_offsets(false, true, own),
+            fault,
+        )? && converts(
+            alloc,
+            of_offsets(true, false, own),
+            of_offsets(true, true, own),
+            fault,
+        )?,
+    )
+}
 
 /// Whether the plan leads from texts, or byte strings, to a span of them as texts, or byte strings.
 pub fn both_lead(
     alloc: Global,
     own: Lists<'_>,
-    plan: &[Light],
+    plan: &[Planned<'_>],
     texts: (bool, bool),
     left: Span,
 ) -> Result<bool, PolarsError> {
     let part = part_of(own, left);
     Ok(
-        leads(alloc, shape_of(false, texts.0), own, plan, texts.1, part)?
-            && leads(alloc, shape_of(true, texts.0), own, plan, texts.1, part)?,
+        plan_leads(
+            alloc,
+            of_offsets(false, texts.0, own),
+            plan,
+            of_offsets(false, texts.1, part),
+        )? && plan_leads(
+            alloc,
+            of_offsets(true, texts.0, own),
+            plan,
+            of_offsets(true, texts.1, part),
+        )?,
     )
 }
 
-/// Whether the plan is refused at this step so.
+/// Whether the plan over byte strings is refused at this step so.
 pub fn both_refuse(
     alloc: Global,
     own: Lists<'_>,
-    text: bool,
-    plan: &[Light],
+    plan: &[Planned<'_>],
     refused: (usize, Cause),
 ) -> Result<bool, PolarsError> {
     let refusal = ColumnError::Step(refused.0, refused.1);
     Ok(
-        refuses(alloc, shape_of(false, text), own, plan, refusal)?
-            && refuses(alloc, shape_of(true, text), own, plan, refusal)?,
+        plan_refuses(alloc, of_offsets(false, false, own), plan, refusal)?
+            && plan_refuses(alloc, of_offsets(true, false, own), plan, refusal)?,
     )
 }
 
-/// Whether the cut leaves the span, in each kind.
+fn cut_is(
+    alloc: Global,
+    text: bool,
+    own: Lists<'_>,
+    step: Planned<'_>,
+    part: Lists<'_>,
+) -> Result<bool, PolarsError> {
+    Ok(
+        step_leads(
+            alloc,
+            of_offsets(false, text, own),
+            step,
+            of_offsets(false, text, part),
+        )? && step_leads(
+            alloc,
+            of_offsets(true, text, own),
+            step,
+            of_offsets(true, text, part),
+        )?,
+    )
+}
+
+/// Whether the step leaves the span, in each kind.
 pub fn all_cut(
     alloc: Global,
     own: Lists<'_>,
-    step: Light,
+    step: Planned<'_>,
     left: Span,
 ) -> Result<bool, PolarsError> {
-    let plan = [step];
-    Ok(
-        both_lead(alloc, own, &plan, (false, false), left)?
-            && both_lead(alloc, own, &plan, (true, true), left)?,
-    )
+    let part = part_of(own, left);
+    Ok(cut_is(alloc, false, own, step, part)? && cut_is(alloc, true, own, step, part)?)
+}
+
+/// Whether the step leaves these lists, in each kind.
+pub fn all_lead(
+    alloc: Global,
+    own: Lists<'_>,
+    step: Planned<'_>,
+    wanted: Lists<'_>,
+) -> Result<bool, PolarsError> {
+    Ok(cut_is(alloc, false, own, step, wanted)? && cut_is(alloc, true, own, step, wanted)?)
 }
 
 /// Whether the cut reaches past the end, in each kind.
-pub fn all_pass(alloc: Global, own: Lists<'_>, step: Light) -> Result<bool, PolarsError> {
-    let plan = [step];
-    let refused = (0, Cause::StepRange);
+pub fn all_pass(alloc: Global, own: Lists<'_>, step: Planned<'_>) -> Result<bool, PolarsError> {
+    let cause = Cause::StepRange;
     Ok(
-        both_refuse(alloc, own, false, &plan, refused)?
-            && both_refuse(alloc, own, true, &plan, refused)?,
+        step_refuses(alloc, of_offsets(false, false, own), step, cause)?
+            && step_refuses(alloc, of_offsets(true, false, own), step, cause)?
+            && step_refuses(alloc, of_offsets(false, true, own), step, cause)?
+            && step_refuses(alloc, of_offsets(true, true, own), step, cause)?,
     )
 }
 
 /// The first steps, as many as these.
-pub fn first_steps(plan: &[Light], count: usize) -> &[Light] {
+pub fn first_steps<'a>(plan: &'a [Planned<'a>], count: usize) -> &'a [Planned<'a>] {
     if count <= plan.len() {
         &plan[..count]
     } else {
@@ -315,65 +500,123 @@ pub fn first_steps(plan: &[Light], count: usize) -> &[Light] {
     }
 }
 
-// ---- steps, by their calls
+// ---- buffers that are made anew
 
-fn by_its_call(column: AnyArray, step: Light) -> Result<AnyArray, Cause> {
-    match step {
-        Slice(offset, length) => step_slice(column, offset, length),
-        Left(count) => step_left(column, count),
-        Right(count) => step_right(column, count),
-        ToUtf8 => step_to_utf8(column),
-        ToBinary => step_to_binary(column),
+// what is left of the bytes after those of a buffer, where they begin with it and it is not empty
+fn rest_after<'a>(bytes: &'a [u8], buffer: &[u8]) -> Option<&'a [u8]> {
+    if buffer.is_empty() {
+        return None;
     }
-}
-
-fn gives(answer: Result<AnyArray, Cause>, kind: Kind, wanted: &Lists<'_>) -> bool {
-    match answer {
-        Ok(column) => column_is(&column, kind, wanted),
-        Err(_) => false,
+    if buffer.len() > bytes.len() {
+        return None;
     }
-}
-
-fn called_is(
-    alloc: Global,
-    of: Shape,
-    step: Light,
-    text: bool,
-    left: Span,
-) -> Result<bool, PolarsError> {
-    match assemble(parts(alloc, of.large, of.text, three())?) {
-        Ok(column) => {
-            column.known();
-            let part = part_of(three(), left);
-            Ok(gives(by_its_call(column, step), kind_by(of.large, text), &part))
-        }
-        Err(_) => Ok(false),
-    }
-}
-
-fn call_refuses(alloc: Global, of: Shape, step: Light, cause: Cause) -> Result<bool, PolarsError> {
-    match assemble(parts(alloc, of.large, of.text, three())?) {
-        Ok(column) => Ok(by_its_call(column, step).err() == Some(cause)),
-        Err(_) => Ok(false),
-    }
-}
-
-/// Whether each call that stands for a step gives what it should, and refuses what it should, on three slots.
-pub fn calls_are(alloc: Global, large: bool, text: bool) -> Result<bool, PolarsError> {
-    let of = shape_of(large, text);
-    let (other, own) = if text {
-        (ToBinary, ToUtf8)
+    if &bytes[..buffer.len()] == buffer {
+        Some(&bytes[buffer.len()..])
     } else {
-        (ToUtf8, ToBinary)
-    };
-    Ok(
-        called_is(alloc, of, Slice(1, 2), text, span_of(1, 2, true))?
-            && called_is(alloc, of, Left(2), text, span_of(0, 2, true))?
-            && called_is(alloc, of, Right(2), text, span_of(2, 1, false))?
-            && called_is(alloc, of, other, !text, span_of(0, 3, true))?
-            && call_refuses(alloc, of, own, Cause::WrongKind)?
-            && call_refuses(alloc, of, Slice(3, 1), Cause::StepRange)?
-            && call_refuses(alloc, of, Left(4), Cause::StepRange)?
-            && call_refuses(alloc, of, Right(4), Cause::StepRange)?,
-    )
+        None
+    }
+}
+
+fn hold(buffers: &DataBuffers, bytes: &[u8]) -> bool {
+    let mut left = bytes;
+    for i in 0..buffers.len() {
+        match rest_after(left, buffers.get(i).as_slice()) {
+            Some(rest) => left = rest,
+            None => return false,
+        }
+    }
+    left.is_empty()
+}
+
+fn columns_buffers_hold(column: &AnyArray, bytes: &[u8], most: usize) -> bool {
+    match column {
+        AnyArray::BinView(array) => {
+            array.data_buffers().len() <= most && hold(array.data_buffers(), bytes)
+        }
+        AnyArray::Utf8View(array) => {
+            array.data_buffers().len() <= most && hold(array.data_buffers(), bytes)
+        }
+        _ => false,
+    }
+}
+
+/// Whether a step leaves buffers that are, end to end, these bytes, where none is empty and there are at most so many.
+pub fn buffers_hold(
+    alloc: Global,
+    own: ColumnLists<'_>,
+    step: Planned<'_>,
+    bytes: &[u8],
+    most: usize,
+) -> Result<bool, PolarsError> {
+    let column = column_of(alloc, own)?;
+    let column = by_its_call(alloc, column, step)?;
+    Ok(columns_buffers_hold(&column, bytes, most))
+}
+
+/// Whether the call itself leaves these lists of an array of byte strings.
+pub fn is_deduped(
+    alloc: Global,
+    own: ColumnLists<'_>,
+    wanted: ColumnLists<'_>,
+) -> Result<bool, PolarsError> {
+    match column_of(alloc, own)? {
+        AnyArray::BinView(array) => {
+            let column = AnyArray::BinView(deduped(alloc, array)?);
+            Ok(column_is(&column, wanted))
+        }
+        _ => Ok(false),
+    }
+}
+
+// ---- rows
+
+// a row of two bytes, and one that is missing
+fn are_two(rows: &Rows) -> bool {
+    rows.len() == 2
+        && !rows.is_empty()
+        && rows.get(0) == Some(b"de".as_slice())
+        && rows.get(1).is_none()
+}
+
+/// Whether rows that are pushed are read again, and none where none is pushed.
+pub fn pushed_rows_are(alloc: Global) -> Result<bool, PolarsError> {
+    let rows = rows_of(alloc, &[Some(b"de"), None])?;
+    Ok(are_two(&rows))
+}
+
+/// Whether there are no rows where none is pushed.
+pub fn no_rows_are(alloc: Global) -> bool {
+    let rows = Rows::new(alloc);
+    rows.is_empty() && rows.len() == 0
+}
+
+/// Whether the rows of a vector are read again.
+pub fn given_rows_are(alloc: Global) -> Result<bool, PolarsError> {
+    let row = Vec::from_slice(alloc, b"de")?;
+    let rows = vec![in alloc; Some(row), None]?;
+    Ok(are_two(&Rows::from_vec(rows)))
+}
+
+// ---- columns that are written anew
+
+fn is_text(own: ColumnLists<'_>) -> bool {
+    match own {
+        Utf8_32(_, _, _) | Utf8_64(_, _, _) | Utf8View(_, _, _) => true,
+        _ => false,
+    }
+}
+
+/// Whether the column is written anew into these lists, of whatever kind, or is refused since they are texts and it is
+/// none.
+pub fn is_rebuilt(
+    alloc: Global,
+    own: ColumnLists<'_>,
+    wanted: ColumnLists<'_>,
+) -> Result<bool, PolarsError> {
+    let step = Rebuild(kind_in(wanted));
+    if is_text(wanted) && !is_text(own) {
+        step_refuses(alloc, own, step, Cause::WrongKind)
+    } else {
+        step_leads(alloc, own, step, wanted)
+    }
 }

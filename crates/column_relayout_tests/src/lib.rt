@@ -2,14 +2,20 @@
 #![tactic(auto)]
 
 #[cfg(test)]
-mod anew;
+mod append_tests;
 #[cfg(test)]
 mod cases;
 #[cfg(test)]
 mod checks;
 #[cfg(test)]
-mod lengths;
+mod conversion_tests;
 #[cfg(test)]
-mod tests;
+mod cut_tests;
 #[cfg(test)]
-mod views;
+mod gather_tests;
+#[cfg(test)]
+mod parts_tests;
+#[cfg(test)]
+mod plan_tests;
+#[cfg(test)]
+mod rebuild_tests;
