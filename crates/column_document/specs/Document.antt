@@ -1,28 +1,25 @@
 -- What bytes, and a JSON value, say as a document: raw parts and a plan, or its fault. This library's own.
-use Rattle.std.specs.Prelude.{◌≡◌, ℕ, Bool, true, false, if◌then◌else◌, List, [], ◌∷◌, find, Option, None, Some, option_map, option_and_then, Result, Ok, Err, ⊤}
+use Rattle.std.specs.Prelude.{◌≡◌, ℕ, Bool, true, false, List, [], Option, None, Some, option_map, option_and_then, Result, Ok, Err, ⊤}
 use Rattle.std.specs.Option.{ok_or}
-use Rattle.std.specs.Str.{bytes_eq}
 use Rattle.serde_json.specs.Data.{Data, null}
-use Rattle.serde_json.specs.Find.{get, as_bool, as_str}
+use Rattle.serde_json.specs.Find.{get, as_bool}
 use Rattle.column_relayout.specs.declared.columns.RawColumn.{RawColumn}
 use Rattle.column_relayout.specs.declared.columns.RawColumn.TheVariants as raw
 use Rattle.column_relayout.specs.declared.kind.Kind.{Kind}
 use Rattle.column_relayout.specs.declared.kind.Kind.TheVariants.{Binary32, Binary64, Utf8_32, Utf8_64, BinView, Utf8View, Fixed, Int64}
 use Rattle.column_relayout.specs.declared.steps.Step.{Step}
-use Rattle.column_relayout.specs.Kinds.{kind_of, kind_name}
 use Rattle.column_document.specs.declared.field.Field.{Field}
 use Rattle.column_document.specs.declared.field.Field.TheVariants as field
 use Rattle.column_document.specs.declared.field.DocFault.{DocFault}
-use Rattle.column_document.specs.declared.field.DocFault.TheVariants.{Json, BadField, Unbuilt}
+use Rattle.column_document.specs.declared.field.DocFault.TheVariants.{Json, BadField}
 use Rattle.column_document.specs.declared.field.DocError.{DocError}
 use Rattle.column_document.specs.declared.field.DocError.TheVariants as error
 use Rattle.column_document.specs.declared.from_json.Unread.{Unread}
 use Rattle.column_document.specs.declared.from_json.Unread.TheVariants as unread
 use Rattle.column_document.specs.Fields.{field_name}
 use Rattle.column_document.specs.Json.{json_of}
-use Rattle.column_document.specs.Values.{list_of, i32_of, i64_of, u64_of, hex_of, view_of, buffers_of}
+use Rattle.column_document.specs.Values.{list_of, i32_of, i64_of, u64_of, hex_of, view_of, buffers_of, kind_from}
 use Rattle.column_document.specs.Steps.{step_of}
-use Rattle.column_document.specs.Unbuilt.{has_unbuilt_step}
 
 -- ---- answers
 
@@ -52,14 +49,6 @@ Err fault >>= f = Err fault
 -- a field that has to be there
 abbrev pub needed : {T : Type 0} → Field → (Data → Option T) → Data → Result T DocFault
 needed field of document = ok_or (option_and_then of (get (field_name field) document)) (BadField field)
-
--- `kind`: the name of a kind, which tells no width
-abbrev pub kind_named : List ℕ → Option Kind
-kind_named word = find (λ kind. bytes_eq word (kind_name (kind_of kind))) (Binary32 ∷ Binary64 ∷ Utf8_32 ∷ Utf8_64 ∷ BinView ∷ Utf8View ∷ Fixed 0 ∷ Int64 ∷ [])
-
--- a JSON string that is such a name
-abbrev pub kind_from : Data → Option Kind
-kind_from value = option_and_then kind_named (as_str value)
 
 -- `validity`: missing, null, or a flag for each slot
 abbrev pub optional_flags : Option Data → Option (Option (List Bool))
@@ -133,17 +122,13 @@ pub record Document : Type 0 where
 abbrev pub document : RawColumn → List Step → Document
 document parts plan = record { parts = parts; plan = plan }
 
--- the fields in their order, to the first that is missing or bad
-abbrev pub fields_of : Data → Result Document DocFault
-fields_of value = do
+-- What a JSON value says: the fields in their order, to the first that is missing or bad.
+unfoldable pub document_of : Data → Result Document DocFault
+document_of value = do
   kind ← needed field.Kind kind_from value
   parts ← parts_of kind value
   plan ← plan_of value
   Ok (document parts plan)
-
--- What a JSON value says. A word that is not built yet comes before all else.
-unfoldable pub document_of : Data → Result Document DocFault
-document_of value = if has_unbuilt_step value then Err Unbuilt else fields_of value
 
 -- What bytes say. Those that are no JSON say nothing else.
 unfoldable pub document_in : List ℕ → Result Document DocFault

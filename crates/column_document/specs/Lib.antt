@@ -2,5 +2,4 @@ pub mod Fields
 pub mod Json
 pub mod Values
 pub mod Steps
-pub mod Unbuilt
 pub mod Document

@@ -1,10 +1,14 @@
 -- What single JSON values stand for in a document: this library's own.
-use Rattle.std.specs.Prelude.{◌≡◌, ℕ, nat_le, ℤ, pos, negsuc, Bool, ◌&&◌, if◌then◌else◌, int_le, List, length, [], ◌∷◌, Option, None, Some, Result, Ok, Err, ⊤}
+use Rattle.std.specs.Prelude.{◌≡◌, ℕ, nat_le, ℤ, pos, negsuc, Bool, ◌&&◌, if◌then◌else◌, int_le, List, length, [], ◌∷◌, find, Option, None, Some, option_map, Result, Ok, Err, ⊤}
 use Rattle.std.specs.Result.{result_ok}
+use Rattle.std.specs.Str.{bytes_eq}
 use Rattle.hex.specs.Hex.{decode_of, decode_sized}
-use Rattle.serde_json.specs.Data.{Data, Items, no_items, item}
+use Rattle.serde_json.specs.Data.{Data, null, Items, no_items, item}
 use Rattle.serde_json.specs.Find.{as_str, as_number, as_array, as_i64, as_u64}
 use Rattle.column_storage.specs.declared.data_buffers.TheConstants.{MAX_BUFFERS}
+use Rattle.column_relayout.specs.declared.kind.Kind.{Kind}
+use Rattle.column_relayout.specs.declared.kind.Kind.TheVariants.{Binary32, Binary64, Utf8_32, Utf8_64, BinView, Utf8View, Fixed, Int64}
+use Rattle.column_relayout.specs.Kinds.{kind_of, kind_name}
 use Rattle.column_document.specs.declared.from_json.Unread.{Unread}
 use Rattle.column_document.specs.declared.from_json.Unread.TheVariants.{NoMemory, Bad}
 
@@ -62,6 +66,11 @@ bytes_of text = result_ok (decode_of text)
 abbrev pub hex_of : Data → Option (List ℕ)
 hex_of value = as_str value >>= bytes_of
 
+-- a row: null where it is missing, or a JSON string of the digits of its bytes
+abbrev pub row_of : Data → Option (Option (List ℕ))
+row_of null = Some None
+row_of value = option_map Some (hex_of value)
+
 -- a view: a JSON string of the 32 digits of its 16 bytes
 abbrev pub view_of : Data → Option (List ℕ)
 view_of value = do
@@ -75,3 +84,11 @@ few_buffers buffers = if nat_le (length buffers) MAX_BUFFERS then Some buffers e
 -- an array of so many JSON strings of digits
 abbrev pub buffers_of : Data → Option (List (List ℕ))
 buffers_of value = list_of hex_of value >>= few_buffers
+
+-- the name of a kind, which tells no width
+abbrev pub kind_named : List ℕ → Option Kind
+kind_named word = find (λ kind. bytes_eq word (kind_name (kind_of kind))) (Binary32 ∷ Binary64 ∷ Utf8_32 ∷ Utf8_64 ∷ BinView ∷ Utf8View ∷ Fixed 0 ∷ Int64 ∷ [])
+
+-- a JSON string that is such a name
+abbrev pub kind_from : Data → Option Kind
+kind_from value = as_str value >>= kind_named

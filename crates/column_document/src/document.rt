@@ -2,13 +2,12 @@
 
 ghost use Rattle.std.specs.Prelude.{◌≡◌, ◌≢◌};
 ghost use Rattle.serde_json.specs.View.{view};
-ghost use Rattle.column_document.specs.Document.{ReadsFields, ReadsFieldsAs, error_at, needed, kind_from, validity_of, plan_of, parts_of, offset_parts, view_parts, fixed_parts, number_parts, document, document_of, document_in};
+ghost use Rattle.column_document.specs.Document.{ReadsFields, ReadsFieldsAs, error_at, needed, validity_of, plan_of, parts_of, offset_parts, view_parts, fixed_parts, number_parts, document, document_of, document_in};
 
 use crate::field::{DocError, DocFault, Field};
 use crate::from_json::{FromJson, Unread, read_list};
 use crate::json::parse;
 use crate::offset_number::OffsetNumber;
-use crate::unbuilt::has_unbuilt_step;
 use column_relayout::{Kind, RawColumn, Step};
 use column_storage::Bitmap;
 use serde_json::Value;
@@ -17,12 +16,14 @@ use std::alloc::Global;
 /// The raw parts and the plan of the document that these bytes are.
 ///
 /// `Json` where the bytes are no JSON, as the JSON crate reads it: they have to be UTF-8, and nested at most 127 deep. Or
-/// else the fault that [`read_document`] finds in the value. `NoMemory` may come where a growth finds none.
+/// else the fault that [`read_document`] finds in the value. `Unbuilt` can no longer come. `NoMemory` may come where a
+/// growth finds none.
 ///
 /// The bytes are dropped before the fields are read.
-#[tactic(auto, unfolding(crate::specs::Document::document_in))]
+#[tactic(auto, using(crate::proofs::DocumentLemmas::bytes_are_built), unfolding(crate::specs::Document::document_in))]
 pub fn parse_document(alloc: Global, bytes: Vec<u8>) -> Result<(RawColumn, Vec<Step>), DocError>
-    ensures { ReadsFieldsAs (λ read. document read.0 read.1.items) result (document_in bytes.items) }
+    ensures said { ReadsFieldsAs (λ read. document read.0 read.1.items) result (document_in bytes.items) }
+    ensures built { document_in bytes.items ≢ Err DocFault.Unbuilt }
 {
     let value = parse(alloc, &bytes)?;
     drop(bytes);
@@ -41,22 +42,22 @@ pub fn parse_document(alloc: Global, bytes: Vec<u8>) -> Result<(RawColumn, Vec<S
 /// - `buffers`, of a kind with views: at most 2,147,483,647 texts of hexadecimal digits in pairs.
 /// - `numbers`, of `int64`: whole numbers within `i64`.
 /// - `validity`: missing, null, or a flag for each slot, where true is valid.
-/// - `plan`: missing, or steps: `["slice", first, count]`, `["left", count]`, `["right", first]`, `["to_utf8"]` and
-///   `["to_binary"]`. The numbers count slots, and are whole numbers from 0 to 2^64 - 1.
+/// - `plan`: missing, or steps: `["slice", first, count]`, `["left", count]`, `["right", first]`, `["to_utf8"]`,
+///   `["to_binary"]`, `["gc"]`, `["dedupe"]`, `["append", rows]`, `["rebuild", kind]` for a kind other than `fixed`, and
+///   `["rebuild", "fixed", width]`. The numbers count slots, or the bytes of a slot, and are whole numbers from 0 to
+///   2^64 - 1. The rows are an array of any length, each null where it is missing, or bytes as hexadecimal digits in
+///   pairs, in either case.
 ///
-/// `Unbuilt` where the first element of an array in the plan is a word that is not built yet, whatever else the document
-/// has. Or else `BadField` with the first field that is missing or bad. `Json` never comes.
-/// `NoMemory` may come where a growth finds none.
+/// `BadField` with the first field that is missing or bad. `Json` never comes, and `Unbuilt` can no longer come, since
+/// every word is built. `NoMemory` may come where a growth finds none.
 ///
 /// Takes time and memory by the length of the fields that are read; each list is decoded once, into its own memory.
-#[tactic(auto, using(crate::proofs::DocumentLemmas::is_json), unfolding(crate::specs::Document::document_of))]
+#[tactic(auto, using(crate::proofs::DocumentLemmas::other_faults), unfolding(crate::specs::Document::document_of))]
 pub fn read_document(alloc: Global, value: &Value) -> Result<(RawColumn, Vec<Step>), DocError>
     ensures said { ReadsFieldsAs (λ read. document read.0 read.1.items) result (document_of (view value.now)) }
     ensures parsed { document_of (view value.now) ≢ Err DocFault.Json }
+    ensures built { document_of (view value.now) ≢ Err DocFault.Unbuilt }
 {
-    if has_unbuilt_step(value) {
-        return Err(DocFault::Unbuilt.into());
-    }
     let kind = needed(alloc, value, Field::Kind)?;
     let parts = read_parts(alloc, value, kind)?;
     let plan = read_plan(alloc, value)?;
@@ -175,24 +176,6 @@ impl Unread {
         match self {
             Unread::NoMemory => DocError::NoMemory,
             Unread::Bad => DocFault::BadField(field).into(),
-        }
-    }
-}
-
-impl FromJson for Kind {
-    ghost of = { kind_from };
-
-    fn from_json(_alloc: Global, value: &Value) -> Result<Kind, Unread> {
-        match value.as_str() {
-            Some("binary32") => Ok(Kind::Binary32),
-            Some("binary64") => Ok(Kind::Binary64),
-            Some("utf8_32") => Ok(Kind::Utf8_32),
-            Some("utf8_64") => Ok(Kind::Utf8_64),
-            Some("binview") => Ok(Kind::BinView),
-            Some("utf8view") => Ok(Kind::Utf8View),
-            Some("fixed") => Ok(Kind::Fixed(0)),
-            Some("int64") => Ok(Kind::Int64),
-            _ => Err(Unread::Bad),
         }
     }
 }

@@ -54,7 +54,7 @@ pub enum DocFault {
     Json,
     /// The first field that is missing or has no good value.
     BadField(Field),
-    /// The kind or a step is named by a word that is not built yet.
+    /// A word of the document is not built yet. Every word is built, so this can no longer come.
     Unbuilt,
 }
 

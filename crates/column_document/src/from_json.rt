@@ -1,12 +1,13 @@
-//! What single JSON values stand for: numbers, flags, bytes, and lists of them.
+//! What single JSON values stand for: numbers, flags, bytes, names of kinds, and lists of them.
 
 ghost use Rattle.std.specs.Prelude.{◌≡◌, List, Option, None, Some};
 ghost use Rattle.std.specs.Result.{result_ok};
 ghost use Rattle.hex.specs.Hex.{decode_sized};
 ghost use Rattle.serde_json.specs.Data.{Data};
 ghost use Rattle.serde_json.specs.View.{view, items_view};
-ghost use Rattle.column_document.specs.Values.{Reads, ReadsAs, each, list_of, is_i32, i32_of, i64_of, u64_of, bytes_of, hex_of, view_of, few_buffers, buffers_of};
+ghost use Rattle.column_document.specs.Values.{Reads, ReadsAs, each, list_of, is_i32, i32_of, i64_of, u64_of, bytes_of, hex_of, view_of, few_buffers, buffers_of, kind_from};
 
+use column_relayout::Kind;
 use column_storage::{Bitmap, Buffer, DataBuffers, MAX_BUFFERS};
 use column_view::View;
 use hex::FromHexError;
@@ -96,6 +97,24 @@ impl FromJson for usize {
     }
 }
 
+impl FromJson for Kind {
+    ghost of = { kind_from };
+
+    fn from_json(_alloc: Global, value: &Value) -> Result<Kind, Unread> {
+        match value.as_str() {
+            Some("binary32") => Ok(Kind::Binary32),
+            Some("binary64") => Ok(Kind::Binary64),
+            Some("utf8_32") => Ok(Kind::Utf8_32),
+            Some("utf8_64") => Ok(Kind::Utf8_64),
+            Some("binview") => Ok(Kind::BinView),
+            Some("utf8view") => Ok(Kind::Utf8View),
+            Some("fixed") => Ok(Kind::Fixed(0)),
+            Some("int64") => Ok(Kind::Int64),
+            _ => Err(Unread::Bad),
+        }
+    }
+}
+
 /// The items of an array, each read as a `T`.
 pub(crate) fn read_list<T: FromJson>(alloc: Global, value: &Value) -> Result<Vec<T>, Unread>
     ensures { ReadsAs (λ list. list.items) result (list_of T.of (view value.now)) }
@@ -117,7 +136,7 @@ fn read_each<T: FromJson>(alloc: Global, values: &[Value]) -> Result<Vec<T>, Unr
 }
 
 /// The bytes that a text of hexadecimal digits spells.
-fn read_bytes(alloc: Global, text: &str) -> Result<Vec<u8>, Unread>
+pub(crate) fn read_bytes(alloc: Global, text: &str) -> Result<Vec<u8>, Unread>
     ensures { ReadsAs (λ list. list.items) result (bytes_of text.now) }
 {
     match hex::decode(alloc, text) {

@@ -6,8 +6,8 @@ mod field;
 mod from_json;
 mod json;
 mod offset_number;
+mod rows;
 mod steps;
-mod unbuilt;
 
 pub use document::{parse_document, read_document};
 pub use field::{DocError, DocFault, Field};

@@ -1,7 +1,7 @@
 //! What documents are seen to say: one bool for each group of calls, and no assertion.
 
 use column_document::{DocError, DocFault, Field, parse_document, read_document};
-use column_relayout::{RawColumn, Step};
+use column_relayout::{Kind, RawColumn, Rows, Step};
 use column_storage::{Bitmap, Buffer};
 use column_view::View;
 use serde_json::Value;
@@ -67,13 +67,16 @@ fn with_plan(alloc: Global, plan: &str) -> Result<String, AllocError> {
     format!(in alloc; r#"{{"kind":"binary32","offsets":[0],"values":"","plan":{plan}}}"#)
 }
 
-// whether these are the same light step
+// whether these are the same step, without rows and kinds
 fn are_same(step: &Step, wanted: &Step) -> bool {
     match (step, wanted) {
         (Step::Slice(from, count), Step::Slice(first, all)) => from == first && count == all,
         (Step::Left(count), Step::Left(all)) => count == all,
         (Step::Right(from), Step::Right(first)) => from == first,
-        (Step::ToUtf8, Step::ToUtf8) | (Step::ToBinary, Step::ToBinary) => true,
+        (Step::ToUtf8, Step::ToUtf8)
+        | (Step::ToBinary, Step::ToBinary)
+        | (Step::Gc, Step::Gc)
+        | (Step::Dedupe, Step::Dedupe) => true,
         _ => false,
     }
 }
@@ -94,6 +97,54 @@ pub fn plan_is(alloc: Global, plan: &str, wanted: &[Step]) -> Result<bool, Alloc
     let document = with_plan(alloc, plan)?;
     Ok(match parsed(alloc, document.as_bytes()) {
         Ok((_parts, plan)) => are_steps(&plan, wanted),
+        Err(_) => false,
+    })
+}
+
+fn are_rows(rows: &Rows, wanted: &[Option<&[u8]>]) -> bool {
+    if rows.len() != wanted.len() {
+        return false;
+    }
+    for i in 0..rows.len() {
+        if rows.get(i) != wanted[i] {
+            return false;
+        }
+    }
+    true
+}
+
+fn is_append(plan: &[Step], wanted: &[Option<&[u8]>]) -> bool {
+    match plan {
+        [Step::Append(rows)] => are_rows(rows, wanted),
+        _ => false,
+    }
+}
+
+/// Whether the plan is one step, which appends these rows.
+pub fn plan_appends(
+    alloc: Global,
+    plan: &str,
+    wanted: &[Option<&[u8]>],
+) -> Result<bool, AllocError> {
+    let document = with_plan(alloc, plan)?;
+    Ok(match parsed(alloc, document.as_bytes()) {
+        Ok((_parts, plan)) => is_append(&plan, wanted),
+        Err(_) => false,
+    })
+}
+
+fn is_rebuild(plan: &[Step], wanted: Kind) -> bool {
+    match plan {
+        [Step::Rebuild(kind)] => *kind == wanted,
+        _ => false,
+    }
+}
+
+/// Whether the plan is one step, which rebuilds into this kind.
+pub fn plan_rebuilds(alloc: Global, plan: &str, wanted: Kind) -> Result<bool, AllocError> {
+    let document = with_plan(alloc, plan)?;
+    Ok(match parsed(alloc, document.as_bytes()) {
+        Ok((_parts, plan)) => is_rebuild(&plan, wanted),
         Err(_) => false,
     })
 }

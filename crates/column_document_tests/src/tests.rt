@@ -2,14 +2,14 @@
 
 use crate::checks::{
     fault_is, field_is_named, fixed_document_is_read, long_document_is_read, no_flags_are_none,
-    no_flags_are_none_in_the_value, number_document_is_read, offset_fits, plan_is, plan_is_bad,
-    short_document_is_read, view_document_is_read,
+    no_flags_are_none_in_the_value, number_document_is_read, offset_fits, plan_appends, plan_is,
+    plan_is_bad, plan_rebuilds, short_document_is_read, view_document_is_read,
 };
 use column_document::{DocFault, Field};
-use column_relayout::Step;
+use column_relayout::{Kind, Step};
 use std::test::Fail;
 
-const FAULTS: [(&[u8], DocFault); 29] = [
+const FAULTS: [(&[u8], DocFault); 33] = [
     (b"{", DocFault::Json),
     (b"", DocFault::Json),
     (b"\xff", DocFault::Json),
@@ -96,31 +96,28 @@ const FAULTS: [(&[u8], DocFault); 29] = [
         br#"{"kind":"binary64","offsets":[0],"values":"","plan":null}"#,
         DocFault::BadField(Field::Plan),
     ),
+    (
+        br#"{"plan":[["rebuild","int64"]]}"#,
+        DocFault::BadField(Field::Kind),
+    ),
+    (
+        br#"{"kind":"fixed","plan":[["rebuild"]]}"#,
+        DocFault::BadField(Field::Values),
+    ),
+    (
+        br#"{"kind":"binary64","offsets":[9223372036854775808],"plan":[["gc"],["rebuild","int64"]]}"#,
+        DocFault::BadField(Field::Offsets),
+    ),
+    (
+        br#"{"kind":"utf8_64","offsets":[0],"values":"","plan":[["left"],["to_utf8",1],["rebuild"]]}"#,
+        DocFault::BadField(Field::Plan),
+    ),
 ];
 
 #[test]
 fn the_first_fault_is_told(rt: HostRuntime) {
     for (document, fault) in FAULTS {
         assert!(rt; fault_is(rt.alloc(), document, fault), "{document:?}");
-    }
-}
-
-const UNBUILT: [&[u8]; 6] = [
-    br#"{"kind":"fixed","plan":[["gc"]]}"#,
-    br#"{"plan":[["gc"]]}"#,
-    br#"{"kind":7,"plan":[7,["turn"],["dedupe",1,2]]}"#,
-    br#"{"kind":"binary64","offsets":[9223372036854775808],"plan":[["append"]]}"#,
-    br#"{"kind":"utf8_32","offsets":[0],"values":"","plan":[["rebuild","int64",8]]}"#,
-    br#"{"kind":"utf8_64","offsets":[0],"values":"","plan":[["left"],["to_utf8",1],["gc"]]}"#,
-];
-
-#[test]
-fn words_that_are_not_built_come_first(rt: HostRuntime) {
-    for document in UNBUILT {
-        assert!(rt;
-            fault_is(rt.alloc(), document, DocFault::Unbuilt),
-            "{document:?}"
-        );
     }
 }
 
@@ -149,7 +146,7 @@ fn offsets_are_within_their_type(rt: HostRuntime) -> Result<(), Fail> {
 
 #[test]
 fn a_step_has_its_arguments(rt: HostRuntime) -> Result<(), Fail> {
-    let table: [(&str, &[Step]); 9] = [
+    let table: [(&str, &[Step]); 10] = [
         (r#"[["slice",1,2]]"#, &[Step::Slice(1, 2)]),
         (
             r#"[["slice",18446744073709551615,0]]"#,
@@ -167,6 +164,7 @@ fn a_step_has_its_arguments(rt: HostRuntime) -> Result<(), Fail> {
             r#"[["to_binary"],["left",2],["to_utf8"]]"#,
             &[Step::ToBinary, Step::Left(2), Step::ToUtf8],
         ),
+        (r#"[["gc"],["dedupe"]]"#, &[Step::Gc, Step::Dedupe]),
         ("[]", &[]),
     ];
     for (plan, wanted) in table {
@@ -175,7 +173,51 @@ fn a_step_has_its_arguments(rt: HostRuntime) -> Result<(), Fail> {
     Ok(())
 }
 
-const BAD_STEPS: [&str; 28] = [
+const ROWS: [(&str, &[Option<&[u8]>]); 4] = [
+    (r#"[["append",[]]]"#, &[]),
+    (r#"[["append",[null]]]"#, &[None]),
+    (
+        r#"[["append",["ee","",null]]]"#,
+        &[Some(b"\xee"), Some(b""), None],
+    ),
+    (
+        r#"[["append",["0aAbCD","61fF"]]]"#,
+        &[Some(b"\x0a\xab\xcd"), Some(b"\x61\xff")],
+    ),
+];
+
+#[test]
+fn a_row_is_null_or_has_its_bytes(rt: HostRuntime) -> Result<(), Fail> {
+    for (plan, wanted) in ROWS {
+        assert!(rt; plan_appends(rt.alloc(), plan, wanted)?, "{plan}");
+    }
+    Ok(())
+}
+
+const REBUILDS: [(&str, Kind); 9] = [
+    (r#"[["rebuild","binary32"]]"#, Kind::Binary32),
+    (r#"[["rebuild","binary64"]]"#, Kind::Binary64),
+    (r#"[["rebuild","utf8_32"]]"#, Kind::Utf8_32),
+    (r#"[["rebuild","utf8_64"]]"#, Kind::Utf8_64),
+    (r#"[["rebuild","binview"]]"#, Kind::BinView),
+    (r#"[["rebuild","utf8view"]]"#, Kind::Utf8View),
+    (r#"[["rebuild","fixed",0]]"#, Kind::Fixed(0)),
+    (
+        r#"[["rebuild","fixed",18446744073709551615]]"#,
+        Kind::Fixed(usize::MAX),
+    ),
+    (r#"[["rebuild","int64"]]"#, Kind::Int64),
+];
+
+#[test]
+fn a_rebuild_names_its_kind(rt: HostRuntime) -> Result<(), Fail> {
+    for (plan, kind) in REBUILDS {
+        assert!(rt; plan_rebuilds(rt.alloc(), plan, kind)?, "{plan}");
+    }
+    Ok(())
+}
+
+const BAD_STEPS: [&str; 51] = [
     "[]",
     "[1]",
     r#""left""#,
@@ -204,6 +246,29 @@ const BAD_STEPS: [&str; 28] = [
     r#"["to_utf8",null]"#,
     r#"["to_binary",1]"#,
     r#"["to_binary","0"]"#,
+    r#"["gc",1]"#,
+    r#"["Gc"]"#,
+    r#"["dedupe",[]]"#,
+    r#"["append"]"#,
+    r#"["append",null]"#,
+    r#"["append","00"]"#,
+    r#"["append",[],[]]"#,
+    r#"["append",[7]]"#,
+    r#"["append",["00",true]]"#,
+    r#"["append",["0"]]"#,
+    r#"["append",["0g"]]"#,
+    r#"["append",[["00"]]]"#,
+    r#"["rebuild"]"#,
+    r#"["rebuild",7]"#,
+    r#"["rebuild","binary33"]"#,
+    r#"["rebuild","Int64"]"#,
+    r#"["rebuild","int64",8]"#,
+    r#"["rebuild","binary32",null]"#,
+    r#"["rebuild","fixed"]"#,
+    r#"["rebuild","fixed","8"]"#,
+    r#"["rebuild","fixed",-1]"#,
+    r#"["rebuild","fixed",18446744073709551616]"#,
+    r#"["rebuild","fixed",8,8]"#,
 ];
 
 #[test]
