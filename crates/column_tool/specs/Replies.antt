@@ -2,11 +2,13 @@
 use Rattle.std.specs.Prelude.{◌≡◌, ◌≢◌, ◌⊎◌, ℕ, List, None, Some, Result, Ok, Err}
 use Rattle.std.specs.declared.option.Option.{Option}
 use Rattle.column_base.specs.declared.errors.Cause.{Cause}
+use Rattle.column_base.specs.declared.errors.Cause.TheVariants.{Overflow}
 use Rattle.column_relayout.specs.declared.columns.ColumnError.{ColumnError}
 use Rattle.column_relayout.specs.declared.columns.ColumnError.TheVariants as refusals
 use Rattle.column_relayout.specs.Columns.{RawLists, parts_fault}
 use Rattle.column_relayout.specs.Arrays.{lists_of, lists_of_parts}
 use Rattle.column_relayout.specs.Plans.{Meaning, leads, faults, plan_meaning, IsLight, light_lists}
+use Rattle.column_relayout.specs.Buffers.{Passes}
 use Rattle.column_relayout.specs.Relayouts.{IsAnswered, Relayouts}
 use Rattle.column_document.specs.declared.field.DocFault.{DocFault}
 use Rattle.column_document.specs.Document.{Document, document_in}
@@ -49,11 +51,16 @@ pub record IsColumnText (parts : RawLists) (document : Document) (text : List �
   pub is : text ≡ printed column
   pub light : IsLight document.plan → text ≡ printed (light_lists parts document.plan)
 
--- the text for a document whose parts have this fault, if any, and whose plan has this meaning
+-- the line for a step that passes the bound on buffers
+abbrev pub IsBoundText : Document → List ℕ → Type 0
+IsBoundText document text = (at : ℕ) × (text ≡ refusal_line (refusals.Step at Overflow)) × Passes (parts_in document) document.plan at
+
+-- The text for a document whose parts have this fault, if any, and whose plan has this meaning. Where a step passes the bound
+-- on buffers it may be that step's line.
 abbrev pub IsDueAfter : Document → Option Cause → Meaning → List ℕ → Type 0
 IsDueAfter document (Some cause) meaning text = text ≡ refusal_line (refusals.Parts cause)
-IsDueAfter document None (faults at cause) text = text ≡ refusal_line (refusals.Step at cause)
-IsDueAfter document None (leads kind slots) text = IsColumnText (parts_in document) document text
+IsDueAfter document None (faults at cause) text = (text ≡ refusal_line (refusals.Step at cause)) ⊎ IsBoundText document text
+IsDueAfter document None (leads kind slots) text = IsColumnText (parts_in document) document text ⊎ IsBoundText document text
 
 -- The text is due for a document: the line of its fault, of the first fault of its parts or of its plan, or the text
 -- of a column.
@@ -63,14 +70,19 @@ IsDue (Ok document) text = IsDueAfter document (parts_fault (parts_in document))
 
 -- ---- the outcome that is due
 
--- the outcome for parts of this fault, if any, and a plan of this meaning; or memory was wanting
-abbrev pub AnswersAfter : Option Cause → Meaning → Outcome → Type 0
-AnswersAfter (Some cause) meaning outcome = (outcome ≡ Refused (refusals.Parts cause)) ⊎ (outcome ≡ NoMemory)
-AnswersAfter None (faults at cause) outcome = (outcome ≡ Refused (refusals.Step at cause)) ⊎ (outcome ≡ NoMemory)
-AnswersAfter None (leads kind slots) outcome = IsDoneOrNoMemory outcome
+-- a step is refused that passes the bound on buffers
+abbrev pub IsBoundRefusal : Document → Outcome → Type 0
+IsBoundRefusal document outcome = (at : ℕ) × (outcome ≡ Refused (refusals.Step at Overflow)) × Passes (parts_in document) document.plan at
+
+-- The outcome for a document whose parts have this fault, if any, and whose plan has this meaning; or memory was wanting.
+-- Where a step passes the bound on buffers it may be refused.
+abbrev pub AnswersAfter : Document → Option Cause → Meaning → Outcome → Type 0
+AnswersAfter document (Some cause) meaning outcome = (outcome ≡ Refused (refusals.Parts cause)) ⊎ (outcome ≡ NoMemory)
+AnswersAfter document None (faults at cause) outcome = (outcome ≡ Refused (refusals.Step at cause)) ⊎ (outcome ≡ NoMemory) ⊎ IsBoundRefusal document outcome
+AnswersAfter document None (leads kind slots) outcome = IsDoneOrNoMemory outcome ⊎ IsBoundRefusal document outcome
 
 -- The outcome is due for a document: its fault, the first fault of its parts or of its plan, or a column; or memory was
 -- wanting.
 abbrev pub AnswersExactly : Result Document DocFault → Outcome → Type 0
 AnswersExactly (Err fault) outcome = (outcome ≡ BadDocument fault) ⊎ (outcome ≡ NoMemory)
-AnswersExactly (Ok document) outcome = AnswersAfter (parts_fault (parts_in document)) (plan_meaning (parts_in document) document.plan) outcome
+AnswersExactly (Ok document) outcome = AnswersAfter document (parts_fault (parts_in document)) (plan_meaning (parts_in document) document.plan) outcome

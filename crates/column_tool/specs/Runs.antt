@@ -9,6 +9,7 @@ use Rattle.column_relayout.specs.declared.columns.ColumnError.{ColumnError}
 use Rattle.column_relayout.specs.Columns.{RawLists, parts_fault}
 use Rattle.column_relayout.specs.Arrays.{lists_of}
 use Rattle.column_relayout.specs.Plans.{leads, plan_meaning, IsLight, light_lists}
+use Rattle.column_relayout.specs.Buffers.{IsSmall}
 use Rattle.column_document.specs.declared.field.DocFault.{DocFault}
 use Rattle.column_document.specs.Document.{Document, document_in}
 use Rattle.column_tool.specs.declared.outcome.Outcome.{Outcome}
@@ -90,7 +91,8 @@ IsExact told outcome = IfSome told (λ bytes. length bytes ≤ limit → Answers
 abbrev pub IsExactlyTooLong : Option (List ℕ) → Outcome → Type 0
 IsExactlyTooLong told outcome = IfSome told (λ bytes. limit < length bytes → (outcome ≡ outcomes.TooLong) ⊎ (outcome ≡ outcomes.NoMemory))
 
--- A document that leads to a column: bytes within the limit that have parts and a plan, in which no fault is found.
+-- A document that leads to a column: bytes within the limit that have parts and a plan, in which no fault is found, and
+-- whose steps write no more buffers than there may be.
 pub record IsSoundDocument (bytes : List ℕ) : Type 0 where
   pub within : length bytes ≤ limit
   pub document : Document
@@ -99,6 +101,7 @@ pub record IsSoundDocument (bytes : List ℕ) : Type 0 where
   pub kind : ColumnKind
   pub slots : List Slot
   pub plan : plan_meaning (parts_in document) document.plan ≡ leads kind slots
+  pub small : IsSmall (parts_in document) document.plan
 
 -- Where the source told its rest, that is a sound document, the run ended well, or an end failed, or memory was
 -- wanting.

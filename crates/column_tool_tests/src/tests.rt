@@ -434,7 +434,7 @@ const NO_DOCUMENTS: Rows<'_, 19> = [
     ),
     (
         br#"{"kind":"utf8_32","plan":[["gc"]]}"#,
-        b"document unbuilt\n",
+        b"document field offsets\n",
     ),
 ];
 
