@@ -9,8 +9,12 @@ use column_checks::Flags;
 use std::test::Fail;
 
 // Bytes before the first and after the last offset need not be UTF-8.
-const TEXTS: [(&[i32], &[u8], Flags<'_>); 7] = [
+const TEXTS: [(&[i32], &[u8], Flags<'_>); 11] = [
     (&[0], b"", None),
+    (&[0], b"", Some(&[])),
+    (&[1], b"\xff\xff", None),
+    (&[1], b"\xff\xff", Some(&[])),
+    (&[1, 1], b"\xff\xff", Some(&[false])),
     (&[2, 2], b"\xff\xff\xff", Some(&[false])),
     (&[1, 3, 3, 4], b"\xffabc\xff", Some(&[true, false, true])),
     (&[0, 2, 2, 7], b"hithere", Some(&[true, false, true])),

@@ -251,7 +251,22 @@ fn ten_light_steps_move_no_byte(rt: HostRuntime) -> Result<(), Fail> {
     Ok(())
 }
 
-const OF_OTHERS: [(ColumnLists<'_>, &[Planned<'_>], ColumnLists<'_>); 4] = [
+const OF_OTHERS: [(ColumnLists<'_>, &[Planned<'_>], ColumnLists<'_>); 7] = [
+    (
+        Fixed(2, b"aabbccdd", Some(&[true, false, true, true])),
+        &[Right(4), Left(0)],
+        Fixed(2, b"", None),
+    ),
+    (
+        BinView(&[LONG, ABC, EMPTY], &[b"-abcdefghijklm-"], None),
+        &[Right(1), ToUtf8, Left(1)],
+        Utf8View(&[ABC], &[b"-abcdefghijklm-"], None),
+    ),
+    (
+        Utf8View(&[LONG, ABC, EMPTY], &[b"-abcdefghijklm-"], None),
+        &[ToBinary, Left(1)],
+        BinView(&[LONG], &[b"-abcdefghijklm-"], None),
+    ),
     (
         Fixed(2, b"aabbccdd", Some(&[true, false, true, true])),
         &[Slice(1, 3), Right(1), Left(1)],
@@ -471,7 +486,7 @@ fn plans_write_anew(rt: HostRuntime) -> Result<(), Fail> {
     Ok(())
 }
 
-const REFUSED: [(ColumnLists<'_>, &[Planned<'_>], ColumnError); 17] = [
+const REFUSED: [(ColumnLists<'_>, &[Planned<'_>], ColumnError); 23] = [
     (
         Binary32(&[0, 2, 2, 3], b"\x01\x02\x03", Some(&[true, false, true])),
         &[ToBinary],
@@ -559,6 +574,37 @@ const REFUSED: [(ColumnLists<'_>, &[Planned<'_>], ColumnError); 17] = [
             Rebuild(Kind::Fixed(3)),
         ],
         ColumnError::Step(3, Cause::WrongLength),
+    ),
+    // The light steps alone, over slots of one length.
+    (
+        Fixed(2, b"aabb", None),
+        &[Right(1), Slice(1, 1)],
+        ColumnError::Step(1, Cause::StepRange),
+    ),
+    (
+        Int64(&[1, -2], None),
+        &[Right(1), Slice(1, 1)],
+        ColumnError::Step(1, Cause::StepRange),
+    ),
+    (
+        Fixed(2, b"aabb", None),
+        &[ToBinary, Left(9)],
+        ColumnError::Step(0, Cause::WrongKind),
+    ),
+    (
+        Int64(&[1, -2], None),
+        &[ToBinary, Left(9)],
+        ColumnError::Step(0, Cause::WrongKind),
+    ),
+    (
+        Fixed(2, b"aabb", None),
+        &[Left(0), ToUtf8],
+        ColumnError::Step(1, Cause::WrongKind),
+    ),
+    (
+        Int64(&[1, -2], None),
+        &[Left(0), ToUtf8],
+        ColumnError::Step(1, Cause::WrongKind),
     ),
     // A want of memory ends the plan.
     (
