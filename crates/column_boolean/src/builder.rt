@@ -177,7 +177,7 @@ impl MutableBooleanArray {
 
     /// The array of these slots, whose truth values are not copied. A validity without a null is dropped.
     ///
-    /// Counts the truth values and the flags, in one pass each. `NoMemory` where there is none for the counts of owners.
+    /// In constant time. `NoMemory` where there is none for the counts of owners.
     #[tactic(auto, using(crate::proofs::RowsLemmas::freezing))]
     pub fn freeze(self) -> Result<BooleanArray, PolarsError>
         ensures { Answers result None (λ a. a ≡ frozen_lists self.lists) }

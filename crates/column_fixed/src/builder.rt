@@ -307,7 +307,7 @@ impl MutableFixedSizeBinaryArray {
 
     /// The array of these slots, whose value bytes and flags are not copied. A validity stays, also one without a null.
     ///
-    /// Counts the flags, in one pass. `NoMemory` where there is none for the counts of owners.
+    /// In constant time. `NoMemory` where there is none for the counts of owners.
     pub fn freeze(self) -> Result<FixedSizeBinaryArray, PolarsError>
         ensures { Answers result None (λ a. a ≡ self.lists) }
     {

@@ -280,7 +280,7 @@ impl<T: NativeType> MutablePrimitiveArray<T> {
 
     /// The array of these slots, whose numbers are not copied. A validity without a null is dropped.
     ///
-    /// Counts the flags, in one pass. `NoMemory` where there is none for the counts of owners.
+    /// In constant time. `NoMemory` where there is none for the counts of owners.
     #[tactic(auto, using(crate::proofs::RowsLemmas::freezing))]
     pub fn freeze(self) -> Result<PrimitiveArray<T>, PolarsError>
         ensures { Answers result None (λ a. a ≡ frozen_array self.array) }

@@ -1,6 +1,7 @@
 -- Laws of the number of bits that are not set.
-use Rattle.std.proofs.Common.{◌≡◌, ℕ, zero, suc, ◌+◌, ◌-◌, ◌≤◌, Bool, true, false, not, cond, List, [], ◌∷◌, length, take, drop, replicate, slice_range, count_by, refl, ◌∙◌, ap, arith, if◌then◌else◌}
-use Rattle.std.proofs.lemmas.List.Sums.{sum_by-cons, sum_by-take-drop}
+use Rattle.std.proofs.Common.{◌≡◌, ℕ, zero, suc, ◌+◌, ◌-◌, ◌<◌, ◌≤◌, Bool, true, false, not, cond, List, [], ◌∷◌, ◌++◌, length, take, drop, replicate, slice_range, count_by, refl, ◌∙◌, ap, arith, if◌then◌else◌}
+use Rattle.std.specs.Prelude.{slice_set, slice_index_or}
+use Rattle.std.proofs.lemmas.List.Sums.{sum_by-cons, sum_by-append, sum_by-set, sum_by-take-drop}
 use Rattle.std.proofs.lemmas.List.{length-drop, drop-drop, take_all}
 use Rattle.column_base.specs.Lists.{sublist}
 
@@ -73,3 +74,12 @@ range-part bits from n =
     let same : from + n - from ≡ n = omega arith in ap (λ k. take k (drop from bits)) same
 
 pub ruleset counts = (unset-most, set-rest, unset-replicate, unset-front, unset-back, unset-part, unset-rest, unset-none, range-part)
+
+-- the bits of two lists, and of one more
+pub unset-joined : (bits others : List Bool) → count_by not (bits ++ others) ≡ count_by not bits + count_by not others
+unset-joined bits others = sum_by-append (λ (b : Bool). cond (not b) 1 0) bits others
+
+pub unset-set : (bits : List Bool) (i : ℕ) (d value : Bool) → i < length bits → count_by not (slice_set bits i value) + cond (not (slice_index_or bits i d)) 1 0 ≡ count_by not bits + cond (not value) 1 0
+unset-set bits i d value inside = sum_by-set (λ (b : Bool). cond (not b) 1 0) bits i value d inside
+
+pub ruleset growing_counts = (unset-most, unset-replicate, unset-joined, unset-set)

@@ -205,8 +205,9 @@ impl Bitmap {
     pub fn make_mut(self, alloc: Global) -> Result<MutableBitmap, PolarsError>
         ensures { Answers result None (λ m. m.bits ≡ self) }
     {
+        let unset = self.unset;
         let bits = self.bits.make_mut(alloc)?;
-        Ok(MutableBitmap::from_vec(bits))
+        Ok(MutableBitmap::from_counted(bits, unset))
     }
 
     /// The same list, which shares the memory of this one.
@@ -224,7 +225,7 @@ impl Bitmap {
 }
 
 // The number of bits that are not set, in one pass without branches.
-pub(crate) fn count_unset(bits: &[bool]) -> usize
+fn count_unset(bits: &[bool]) -> usize
     ensures { result ≡ count_by not bits.now }
 {
     let mut unset = 0;
@@ -236,7 +237,7 @@ pub(crate) fn count_unset(bits: &[bool]) -> usize
 
 // The number of bits that are not set among `length` bits of one value.
 #[tactic(auto, using(crate::proofs::CountsLemmas::counts))]
-fn unset_of_one_value(value: bool, length: usize) -> usize
+pub(crate) fn unset_of_one_value(value: bool, length: usize) -> usize
     ensures { result ≡ count_by not (replicate length value) }
 {
     if value { 0 } else { length }
@@ -245,7 +246,7 @@ fn unset_of_one_value(value: bool, length: usize) -> usize
 // The number of bits that are not set among the `length` ones from place `offset` on, where `unset` of all are not
 // set. Reads the smaller of this part and the two beside it.
 #[tactic(auto, using(crate::proofs::CountsLemmas::counts))]
-fn unset_of_part(bits: &[bool], unset: usize, offset: usize, length: usize) -> usize
+pub(crate) fn unset_of_part(bits: &[bool], unset: usize, offset: usize, length: usize) -> usize
     requires within { offset + length ≤ list_length bits.now }
     requires counted { unset ≡ count_by not bits.now }
     ensures { result ≡ count_by not (sublist bits.now offset length) }

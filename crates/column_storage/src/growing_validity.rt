@@ -267,7 +267,7 @@ pub fn clone_flags(validity: Option<&MutableBitmap>) -> Result<Option<MutableBit
 
 /// The validity of an array: none where no slot is null. Arrow columnar format, "Validity bitmaps".
 ///
-/// Counts the null slots, in one pass. The flags are not copied. `NoMemory` where there is none for the count of owners.
+/// In constant time. The flags are not copied. `NoMemory` where there is none for the count of owners.
 pub fn freeze_flags(validity: Option<MutableBitmap>) -> Result<Option<Bitmap>, PolarsError>
     ensures { Answers result None (λ frozen. frozen ≡ frozen_flags (bits_given validity)) }
 {

@@ -5,7 +5,7 @@ ghost use Rattle.column_base.specs.Answers.{Answers};
 ghost use Rattle.column_storage.specs.Bits.{kept_flags};
 ghost use Rattle.column_storage.specs.Iterators.{bits_left};
 
-use crate::bitmap::{Bitmap, count_unset};
+use crate::bitmap::{Bitmap, unset_of_one_value, unset_of_part};
 use crate::bitmap_iter::BitmapIter;
 use column_base::{Growing, PolarsError, TryExtendFromSelf, TryPush};
 use std::alloc::Global;
@@ -13,20 +13,24 @@ use std::marker::Model;
 
 /// A list of truth values that grows, semantically a `Vec<bool>`.
 ///
-/// It keeps its allocator. A refused call leaves the list as it was, and at least the room that there was.
+/// It keeps its allocator, and the number of its bits that are not set. A refused call leaves the list as it was, and at
+/// least the room that there was.
 #[derive(Drop)]
 pub struct MutableBitmap {
     values: Vec<bool>,
+    unset: usize,
 }
 
 impl Model for MutableBitmap {
-    ghost use Rattle.std.specs.Prelude.{◌-◌};
+    ghost use Rattle.std.specs.Prelude.{◌≡◌, ◌-◌, not, count_by};
     ghost use Rattle.std.specs.Vec.{vec_len, vec_capacity};
     ghost use Rattle.column_storage.specs.Bits.{GrowingBits};
 
     ghost Value = { GrowingBits };
 
     ghost view = { λ m. record { bits = m.values.items; spare = vec_capacity m.values - vec_len m.values } };
+
+    ghost invariant = { λ m. m.unset ≡ count_by not m.values.items };
 }
 
 impl MutableBitmap {
@@ -36,6 +40,7 @@ impl MutableBitmap {
     {
         MutableBitmap {
             values: Vec::new(alloc),
+            unset: 0,
         }
     }
 
@@ -46,24 +51,26 @@ impl MutableBitmap {
         ensures { Answers result None (λ m. (m.bits ≡ []) × (capacity ≤ m.spare)) }
     {
         let values = Vec::with_capacity(alloc, capacity)?;
-        Ok(MutableBitmap { values })
+        Ok(MutableBitmap { values, unset: 0 })
     }
 
     /// `length` bits that are set.
     ///
     /// `NoMemory` where there is none for them.
+    #[tactic(auto, using(crate::proofs::CountsLemmas::counts))]
     pub fn from_len_set(alloc: Global, length: usize) -> Result<Self, PolarsError>
         ensures { Answers result None (λ m. m.bits ≡ replicate length true) }
     {
         let values = vec![in alloc; true; length]?;
-        Ok(MutableBitmap { values })
+        Ok(MutableBitmap { values, unset: 0 })
     }
 
-    // The list of a vector, which is not copied.
-    pub(crate) fn from_vec(values: Vec<bool>) -> Self
+    // The list of a vector of which `unset` bits are not set. The vector is not copied.
+    pub(crate) fn from_counted(values: Vec<bool>, unset: usize) -> Self
+        requires { unset ≡ count_by not values.items }
         ensures { result.bits ≡ values.items }
     {
-        MutableBitmap { values }
+        MutableBitmap { values, unset }
     }
 
     /// Makes room for `additional` more bits.
@@ -82,6 +89,7 @@ impl MutableBitmap {
     /// Adds a bit at the end.
     ///
     /// `NoMemory` where there is none for it, and never where there is room.
+    #[tactic(auto, using(crate::proofs::CountsLemmas::growing_counts))]
     pub fn push(&mut self, value: bool) -> Result<(), PolarsError>
         ensures answer { Answers result None (λ _. self.new.bits ≡ self.old.bits ++ value ∷ []) }
         ensures spare_serves { 0 < self.old.spare → IsOk result }
@@ -90,20 +98,25 @@ impl MutableBitmap {
         ensures spare_kept { OnErr result (self.old.spare ≤ self.new.spare) }
     {
         self.values.push(value)?;
+        self.unset += unset_of_one_value(value, 1);
         Ok(())
     }
 
     /// Takes the last bit, `None` where there is none.
+    #[tactic(auto, using(crate::proofs::CountsLemmas::growing_counts))]
     pub fn pop(&mut self) -> Option<bool>
         ensures bits { MatchOption result ((self.old.bits ≡ []) × (self.new.bits ≡ [])) (λ bit. self.old.bits ≡ self.new.bits ++ bit ∷ []) }
         ensures spare { self.old.spare ≤ self.new.spare }
     {
-        self.values.pop()
+        let bit = self.values.pop()?;
+        self.unset -= unset_of_one_value(bit, 1);
+        Some(bit)
     }
 
     /// Adds `additional` bits of one value at the end.
     ///
     /// `NoMemory` where there is none for them, and never where there is room.
+    #[tactic(auto, using(crate::proofs::CountsLemmas::growing_counts))]
     pub fn extend_constant(&mut self, additional: usize, value: bool) -> Result<(), PolarsError>
         ensures answer { Answers result None (λ _. self.new.bits ≡ self.old.bits ++ replicate additional value) }
         ensures spare_serves { additional ≤ self.old.spare → IsOk result }
@@ -113,12 +126,14 @@ impl MutableBitmap {
         self.reserve(additional)?;
         let len = self.values.len() + additional;
         self.values.resize(len, value)?;
+        self.unset += unset_of_one_value(value, additional);
         Ok(())
     }
 
     /// Adds the bits of another list at the end.
     ///
     /// `NoMemory` where there is none for them, and never where there is room.
+    #[tactic(auto, using(crate::proofs::CountsLemmas::growing_counts))]
     pub fn try_extend_from_self(&mut self, other: &Self) -> Result<(), PolarsError>
         ensures answer { Answers result None (λ _. self.new.bits ≡ self.old.bits ++ other.now.bits) }
         ensures spare_serves { length other.now.bits ≤ self.old.spare → IsOk result }
@@ -127,23 +142,32 @@ impl MutableBitmap {
     {
         self.reserve(other.len())?;
         self.values.extend_from_slice(&other.values)?;
+        self.unset += other.unset;
         Ok(())
     }
 
     /// Keeps the first `len` bits, or all where there are no more.
+    ///
+    /// Counts the unset bits of the smaller of the part kept and the part cut off, and none where no bit is unset.
     pub fn truncate(&mut self, len: usize)
         ensures bits { self.new.bits ≡ take len self.old.bits }
         ensures spare { self.old.spare ≤ self.new.spare }
     {
-        self.values.truncate(len);
+        if len < self.values.len() {
+            self.unset = unset_of_part(&self.values, self.unset, 0, len);
+            self.values.truncate(len);
+        }
     }
 
     /// Gives the bit at place `i` another value.
+    #[tactic(auto, using(crate::proofs::CountsLemmas::growing_counts))]
     pub fn set(&mut self, i: usize, value: bool)
         requires { i < length self.old.bits }
         ensures { self.new ≡ record self.old { bits = slice_set self.old.bits i value } }
     {
+        let was = self.values[i];
         self.values[i] = value;
+        self.unset = self.unset - unset_of_one_value(was, 1) + unset_of_one_value(value, 1);
     }
 
     /// The bit at place `i`.
@@ -175,19 +199,19 @@ impl MutableBitmap {
         self.values.is_empty()
     }
 
-    /// The number of bits that are set, in linear time.
+    /// The number of bits that are set, in constant time.
     #[tactic(auto, using(crate::proofs::CountsLemmas::counts))]
     pub fn set_bits(&self) -> usize
         ensures { result ≡ count_by (λ b. b) self.now.bits }
     {
-        self.values.len() - count_unset(&self.values)
+        self.values.len() - self.unset
     }
 
-    /// The number of bits that are not set, in linear time.
+    /// The number of bits that are not set, in constant time.
     pub fn unset_bits(&self) -> usize
         ensures { result ≡ count_by not self.now.bits }
     {
-        count_unset(&self.values)
+        self.unset
     }
 
     /// The bits one by one, from both ends.
@@ -205,31 +229,26 @@ impl MutableBitmap {
         self.values.shrink_to_fit();
     }
 
-    /// The list as a bitmap, whose bits are not copied.
+    /// The list as a bitmap, whose bits are not copied, in constant time.
     ///
-    /// Counts the bits that are not set, in one pass. Takes memory for the count of its owners. `NoMemory` where there
-    /// is none.
+    /// Takes memory for the count of its owners. `NoMemory` where there is none.
     pub fn freeze(self) -> Result<Bitmap, PolarsError>
         ensures { Answers result None (λ b. b ≡ self.bits) }
     {
         let alloc = *self.values.allocator();
-        Bitmap::from_vec(alloc, self.values)
+        Bitmap::from_counted(alloc, self.values, self.unset)
     }
 
-    /// The list as a validity, `None` exactly where no bit is unset.
+    /// The list as a validity, `None` exactly where no bit is unset, in constant time.
     ///
-    /// Counts the bits that are not set, in one pass. Takes memory for the count of its owners. `NoMemory` where there
-    /// is none. Arrow columnar format, "Validity bitmaps".
+    /// Takes memory for the count of its owners. `NoMemory` where there is none. Arrow columnar format, "Validity bitmaps".
     pub fn into_opt_validity(self) -> Result<Option<Bitmap>, PolarsError>
         ensures { Answers result None (λ validity. validity ≡ kept_flags self.bits) }
     {
-        let unset = self.unset_bits();
-        if unset == 0 {
+        if self.unset == 0 {
             return Ok(None);
         }
-        let alloc = *self.values.allocator();
-        let validity = Bitmap::from_counted(alloc, self.values, unset)?;
-        Ok(Some(validity))
+        Ok(Some(self.freeze()?))
     }
 
     /// A copy of the list.
@@ -239,7 +258,10 @@ impl MutableBitmap {
         ensures { Answers result None (λ m. m.bits ≡ self.now.bits) }
     {
         let values = Vec::from_slice(*self.values.allocator(), &self.values)?;
-        Ok(MutableBitmap { values })
+        Ok(MutableBitmap {
+            values,
+            unset: self.unset,
+        })
     }
 }
 

@@ -322,7 +322,7 @@ impl<O: Offset> MutableUtf8Array<O> {
 
     /// The array of these slots, whose offsets and value bytes are not copied. A validity without a null is dropped.
     ///
-    /// Counts the flags, in one pass. `NoMemory` where there is none for the counts of owners.
+    /// In constant time. `NoMemory` where there is none for the counts of owners.
     #[tactic(auto, using(crate::proofs::BuilderLemmas::texts_frozen))]
     pub fn freeze(self) -> Result<Utf8Array<O>, PolarsError>
         ensures { Answers result None (λ a. a ≡ frozen_lists self.lists) }
