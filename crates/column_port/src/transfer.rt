@@ -1,6 +1,6 @@
 //! The loops that read a source to its end and write a text whole.
 
-ghost use Rattle.std.specs.Prelude.{◌≡◌, ◌⊎◌, ℕ, ◌+◌, ◌-◌, ◌^◌, ◌<◌, ◌≤◌, List, [], length, take, IfOk, IfSome, Err, OnOk, OnErr, vec_len};
+ghost use Rattle.std.specs.Prelude.{◌≡◌, ◌⊎◌, ℕ, ◌+◌, ◌++◌, ◌-◌, ◌^◌, ◌<◌, ◌≤◌, List, [], length, take, max, IfOk, IfSome, Err, OnOk, OnErr, vec_len, vec_capacity};
 ghost use Rattle.std.specs.declared.option.Option.{Option};
 ghost use Rattle.std.specs.Io.KnownBytes.{Consumes, IsAtEnd, Appends, Keeps};
 ghost use Rattle.column_port.specs.declared.transfer.ReadError.TheVariants.{NoMemory, Fault};
@@ -42,50 +42,62 @@ impl From<Failed> for ReadError {
     }
 }
 
-/// The least bytes that a read is handed, where so many are missing up to the limit and one more.
-const PIECE: usize = 10;
+/// The bytes of the piece, on the stack, that one read is handed: fewer than 4,096.
+const PIECE: usize = 4032;
 
 /// Half of the bytes that the first growth makes.
 const HALF_FIRST: usize = 4096;
 
-/// Makes room behind the bytes that are filled: for a piece, or for all that is missing up to the limit and one more.
-fn make_room(bytes: &mut Vec<u8>, filled: usize, limit: usize) -> Result<(), ReadError>
+/// One read, into the front of a piece.
+fn read_piece<S: Source>(source: &mut S, piece: &mut [u8], most: usize) -> Result<usize, Failed>
+    requires most { 0 < most }
+    requires fits { most ≤ length piece.old }
+    ensures bound { IfOk result (λ count. count ≤ most) }
+    ensures length { length piece.new ≡ length piece.old }
+    ensures given { IfOk result (λ count. Consumes (S.left source.old) (S.left source.new) (take count piece.new)) }
+    ensures end { IfOk result (λ count. count ≡ 0 → IsAtEnd (S.left source.new)) }
+    ensures refused { OnErr result (Keeps (S.left source.old) (S.left source.new)) }
+    ensures cause { HasCause (S.faults source.old) (S.faults source.new) result }
+{
+    source.read(&mut piece[..most])
+}
+
+/// Makes room behind the bytes for a piece: where there is none, the memory is doubled, up to one byte past the limit.
+fn make_room(bytes: &mut Vec<u8>, count: usize, limit: usize) -> Result<(), ReadError>
     requires fits { limit + 1 < 2 ^ 64 }
-    requires within { filled ≤ limit }
-    requires filled { filled ≤ vec_len bytes.old }
-    requires length { vec_len bytes.old ≤ limit + 1 }
-    ensures piece { OnOk result ((filled + 10 ≤ vec_len bytes.new) ⊎ (vec_len bytes.new ≡ limit + 1)) }
-    ensures length { OnOk result (vec_len bytes.new ≤ limit + 1) }
-    ensures kept { OnOk result (take filled bytes.new.items ≡ take filled bytes.old.items) }
+    requires piece { count ≤ 4032 }
+    requires within { vec_len bytes.old + count ≤ limit + 1 }
+    ensures items { bytes.new.items ≡ bytes.old.items }
+    ensures room { OnOk result (vec_len bytes.new + count ≤ vec_capacity bytes.new) }
+    ensures bound { vec_capacity bytes.new ≤ max (vec_capacity bytes.old) (limit + 1) }
     ensures memory { OnErr result (result ≡ Err NoMemory) }
 {
-    if bytes.len() - filled >= PIECE {
+    let (len, capacity) = (bytes.len(), bytes.capacity());
+    if capacity - len >= count {
         return Ok(());
     }
-    let doubled = bytes.len().max(HALF_FIRST).saturating_mul(2);
-    bytes.resize(doubled.min(limit + 1), 0)?;
+    let doubled = capacity.max(HALF_FIRST).saturating_mul(2);
+    bytes.reserve_exact(doubled.min(limit + 1) - len)?;
     Ok(())
 }
 
-/// One read, into the bytes from a place on.
-#[tactic(auto, using(crate::proofs::PiecesLemmas::pieces))]
-fn read_at<S: Source>(source: &mut S, bytes: &mut [u8], at: usize) -> Result<usize, Failed>
-    requires { at < length bytes.old }
-    ensures bound { IfOk result (λ count. at + count ≤ length bytes.new) }
-    ensures given { IfOk result (λ count. (told : Option (List ℕ)) → Consumes told (S.left source.old) (take at bytes.old) → Consumes told (S.left source.new) (take (at + count) bytes.new)) }
-    ensures end { IfOk result (λ count. count ≡ 0 → IsAtEnd (S.left source.new)) }
-    ensures refused { OnErr result ((told : Option (List ℕ)) → Consumes told (S.left source.old) (take at bytes.old) → Consumes told (S.left source.new) (take at bytes.old)) }
-    ensures cause { HasCause (S.faults source.old) (S.faults source.new) result }
+/// Appends a piece for which there is room.
+fn append_piece(bytes: &mut Vec<u8>, piece: &[u8])
+    requires room { vec_len bytes.old + length piece.now ≤ vec_capacity bytes.old }
+    ensures items { bytes.new.items ≡ bytes.old.items ++ piece.now }
 {
-    source.read(&mut bytes[at..])
+    match bytes.extend_from_slice(piece) {
+        Ok(()) => {}
+        Err(_) => unreachable!(),
+    }
 }
 
 /// All bytes that the source still has, where they are no more than the limit.
 ///
-/// Each read is handed a piece of at least 10 bytes, or of all bytes that are missing up to one past the limit where
-/// these are fewer. The first read that fails ends the reading, and so does the byte past the limit: at most that one
-/// byte past it leaves the source. Takes linear time. The memory is doubled as the bytes come, and is never for more
-/// than one byte past the limit.
+/// Each read is handed a piece of 4,032 bytes, or of all bytes that are missing up to one past the limit where these
+/// are fewer, and what came is appended. The first read that fails ends the reading, and so does the byte past the
+/// limit: at most that one byte past it leaves the source. Takes linear time. The memory is doubled as the bytes come,
+/// so that there is room for a piece before it is read, and is never for more than one byte past the limit.
 ///
 /// Refused: `Fault` where a read failed, and then the source's count of faults is one more, else as it was; `TooLong`
 /// where the source gave a byte past the limit; `NoMemory` where no memory was there.
@@ -109,15 +121,15 @@ pub fn read_within<S: Source>(
     ensures later { S.faults source.old ≤ S.faults source.new }
 {
     let mut bytes = Vec::new(alloc);
-    let mut filled = 0;
-    while filled <= limit {
-        make_room(&mut bytes, filled, limit)?;
-        let count = read_at(source, &mut bytes, filled)?;
+    let mut piece = [0; PIECE];
+    while bytes.len() <= limit {
+        let most = PIECE.min(limit + 1 - bytes.len());
+        make_room(&mut bytes, most, limit)?;
+        let count = read_piece(source, &mut piece, most)?;
         if count == 0 {
-            bytes.truncate(filled);
             return Ok(bytes);
         }
-        filled += count;
+        append_piece(&mut bytes, &piece[..count]);
     }
     Err(ReadError::TooLong)
 }

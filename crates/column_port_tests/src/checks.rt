@@ -17,9 +17,11 @@ pub const TEXT: &[u8] = b"a document of 26 bytes ...";
 /// What a reading gives, or how else it ends.
 pub type Reading<'a> = Result<&'a [u8], ReadError>;
 
+// the answer is as wanted, and its memory is for no more than one byte past the limit
 fn reads<S: Source>(alloc: Global, source: &mut S, limit: u32, wanted: Reading<'_>) -> bool {
-    match read_within(alloc, source, limit as usize) {
-        Ok(bytes) => wanted == Ok(bytes.as_slice()),
+    let limit = limit as usize;
+    match read_within(alloc, source, limit) {
+        Ok(bytes) => wanted == Ok(bytes.as_slice()) && bytes.capacity() <= limit + 1,
         Err(error) => wanted == Err(error),
     }
 }

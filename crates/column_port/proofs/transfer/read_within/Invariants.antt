@@ -1,14 +1,13 @@
-use Rattle.std.proofs.Common.{◌≡◌, ◌≤◌, ◌+◌, ◌-◌, take, vec_len}
+use Rattle.std.proofs.Common.{◌≡◌, ◌≤◌, ◌+◌, ◌-◌, vec_len}
 use Rattle.std.specs.Io.KnownBytes.{Consumes}
 use Rattle.column_port.proofs.transfer.read_within.Given as goal
 
-abbrev pub invariant-loop-filled : goal.invariant-loop-filled
-invariant-loop-filled g l = record {
-  filled : l.filled ≤ vec_len l.bytes;
-  length : vec_len l.bytes ≤ l.limit + 1;
-  given : Consumes (g.S.Source.left l.fn.source) (g.S.Source.left l.source) (take l.filled l.bytes.items);
+abbrev pub invariant-loop-piece : goal.invariant-loop-piece
+invariant-loop-piece g l = record {
+  within : vec_len l.bytes ≤ l.limit + 1;
+  given : Consumes (g.S.Source.left l.fn.source) (g.S.Source.left l.source) l.bytes.items;
   quiet : g.S.Source.faults l.source ≡ g.S.Source.faults l.fn.source;
 }
 
-abbrev pub decreases-loop-filled : goal.decreases-loop-filled
-decreases-loop-filled g l = l.limit + 1 - l.filled
+abbrev pub decreases-loop-piece : goal.decreases-loop-piece
+decreases-loop-piece g l = l.limit + 1 - vec_len l.bytes
