@@ -1,10 +1,11 @@
 //! Rows that are appended to a column.
 
-ghost use Rattle.std.specs.Prelude.{option_map};
+ghost use Rattle.std.specs.Prelude.{◌++◌, ◌∷◌, [], Some, option_map};
+ghost use Rattle.std.specs.Option.{option_copied};
 ghost use Rattle.serde_json.specs.View.{view, items_view};
-ghost use Rattle.column_document.specs.Values.{Reads, ReadsAs, each, list_of, row_of};
+ghost use Rattle.column_document.specs.Values.{Reads, ReadsAs, each, list_of, row_of, bytes_of};
 
-use crate::from_json::{FromJson, Unread, read_bytes};
+use crate::from_json::{FromJson, Unread};
 use column_relayout::Rows;
 use serde_json::Value;
 use std::alloc::Global;
@@ -20,24 +21,58 @@ impl FromJson for Rows {
     }
 }
 
-/// The rows, each decoded once, into its own memory.
+/// The rows, each decoded once. The memory in which the bytes of one are decoded serves for the next.
 fn read_rows(alloc: Global, values: &[Value]) -> Result<Rows, Unread>
     ensures { Reads result (each row_of (items_view values.now)) }
 {
-    let mut rows = Vec::with_capacity(alloc, values.len())?;
+    let mut rows = no_rows(alloc, values.len())?;
+    let mut decoded = Vec::new(alloc);
     for value in values {
-        rows.push(read_row(alloc, value)?)?;
+        add_row(&mut rows, &mut decoded, value)?;
     }
-    Ok(Rows::from_vec(rows))
+    Ok(rows)
 }
 
-/// The bytes of a row, or None where it is null.
-fn read_row(alloc: Global, value: &Value) -> Result<Option<Vec<u8>>, Unread>
-    ensures { ReadsAs (option_map (λ bytes. bytes.items)) result (row_of (view value.now)) }
+/// No rows, with room for so many.
+fn no_rows(alloc: Global, capacity: usize) -> Result<Rows, Unread>
+    ensures { Reads result (Some []) }
+{
+    match Rows::with_capacity(alloc, capacity) {
+        Ok(rows) => Ok(rows),
+        Err(_) => Err(Unread::NoMemory),
+    }
+}
+
+/// Adds the row that a value stands for, whose bytes are decoded into `decoded`.
+fn add_row(rows: &mut Rows, decoded: &mut Vec<u8>, value: &Value) -> Result<(), Unread>
+    ensures { ReadsAs (λ _. rows.new) result (option_map (λ row. rows.old ++ row ∷ []) (row_of (view value.now))) }
 {
     match value {
-        Value::Null => Ok(None),
-        Value::String(digits) => Ok(Some(read_bytes(alloc, digits.as_str())?)),
+        Value::Null => push_row(rows, None),
+        Value::String(digits) => {
+            decode_into(decoded, digits.as_str())?;
+            push_row(rows, Some(decoded.as_slice()))
+        }
         _ => Err(Unread::Bad),
+    }
+}
+
+fn push_row(rows: &mut Rows, row: Option<&[u8]>) -> Result<(), Unread>
+    ensures { ReadsAs (λ _. rows.new) result (Some (rows.old ++ option_copied row.entry ∷ [])) }
+{
+    match rows.push(row) {
+        Ok(()) => Ok(()),
+        Err(_) => Err(Unread::NoMemory),
+    }
+}
+
+/// The bytes that a text of hexadecimal digits spells, in the place of those that were there.
+fn decode_into(bytes: &mut Vec<u8>, text: &str) -> Result<(), Unread>
+    ensures { ReadsAs (λ _. bytes.new.items) result (bytes_of text.now) }
+{
+    bytes.resize(text.len() / 2, 0)?;
+    match hex::decode_to_slice(text, bytes.as_mut_slice()) {
+        Ok(()) => Ok(()),
+        Err(_) => Err(Unread::Bad),
     }
 }

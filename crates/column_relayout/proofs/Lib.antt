@@ -1,5 +1,6 @@
 pub mod ColumnsLemmas
 pub mod WrittenLemmas
+pub mod PlacesLemmas
 pub mod StepsLemmas
 pub mod BuffersLemmas
 pub mod GatherLemmas

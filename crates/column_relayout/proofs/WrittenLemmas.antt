@@ -197,6 +197,14 @@ hold_taken lists new sound is =
           ∙ slots-used lists sound;
     }
 
+-- The lists are kept, but for value bytes past the last offset, where offsets begin at 0.
+pub hold_used : (lists new : OffsetLists) → AreSoundLists lists → offset_at lists.offsets 0 ≡ pos 0 → new ≡ used_lists lists → HoldSlots new (offset_slots lists)
+hold_used lists new sound starts is = record {
+  full = subst AreFullLists (sym is) (full-used lists sound);
+  starts = ap (λ (ls : OffsetLists). offset_at ls.offsets 0) is ∙ starts;
+  slots_are = ap offset_slots is ∙ slots-used lists sound;
+}
+
 -- the lists that are copied are these
 pub taken_lists : (lists : OffsetLists) (offsets old : List ℤ) (values empty bytes : List ℕ) (flags : Option (List Bool)) → offsets ≡ extended (pos 0 ∷ []) (lengths_of old) → old ≡ lists.offsets → values ≡ empty ++ bytes → empty ≡ [] → bytes ≡ concat (values_of (offset_slots lists)) → flags ≡ lists.flags
     → offset_lists offsets values flags ≡ offset_lists (extended (pos 0 ∷ []) (lengths_of lists.offsets)) (concat (values_of (offset_slots lists))) lists.flags

@@ -1,6 +1,7 @@
 pub mod Kinds
 pub mod Columns
 pub mod Written
+pub mod Places
 pub mod Plans
 pub mod Buffers
 pub mod Steps

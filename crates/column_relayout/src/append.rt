@@ -1,7 +1,8 @@
 //! The step that appends rows.
 
-ghost use Rattle.std.specs.Prelude.{◌≡◌, ◌++◌, ◌+◌, ◌*◌, ◌^◌, ◌<◌, ◌≤◌, nat_lt, true, false, map, length, Some, None, MatchOption};
+ghost use Rattle.std.specs.Prelude.{◌≡◌, ◌++◌, ◌+◌, ◌*◌, ◌^◌, ◌<◌, ◌≤◌, nat_lt, true, false, pos, map, length, Some, None, MatchOption};
 ghost use Rattle.column_base.specs.Answers.{Answers, AnswersFirst};
+ghost use Rattle.column_offset.specs.Offsets.{offset_at};
 ghost use Rattle.column_offset.specs.Text.{are_well_formed_utf8};
 ghost use Rattle.column_binary.specs.Slots.{offset_slots};
 ghost use Rattle.column_binary.specs.Rows.{slot_of};
@@ -9,7 +10,7 @@ ghost use Rattle.column_fixed.specs.Slots.{fixed_count};
 ghost use Rattle.column_rows.specs.Rows.{given_rows};
 ghost use Rattle.column_relayout.specs.declared.steps.Step.TheVariants.{Append};
 ghost use Rattle.column_relayout.specs.Columns.{offset_column, view_column, fixed_column, number_column};
-ghost use Rattle.column_relayout.specs.Written.{bytes_in, written_lists, bytes_fault};
+ghost use Rattle.column_relayout.specs.Written.{bytes_in, written_lists, bytes_fault, HoldSlots};
 ghost use Rattle.column_relayout.specs.Arrays.{lists_of};
 ghost use Rattle.column_relayout.specs.Relayouts.{AnswersStep, StepAnswers};
 
@@ -17,13 +18,14 @@ use crate::arrays::Column;
 use crate::columns::AnyArray;
 use crate::rows::Rows;
 use crate::written::{taken_over, used_bytes};
-use column_base::{Cause, Offset, PolarsError, is_utf8, push_each};
-use column_binary::BinaryArray;
+use column_base::{Cause, Offset, PolarsError, is_utf8};
+use column_binary::{BinaryArray, MutableBinaryArray};
 use column_binview::{BinaryViewArray, Utf8ViewArray};
 use column_fixed::FixedSizeBinaryArray;
 use column_primitive::Int64Array;
 use column_rows::{
-    are_of_view, are_of_width, bytes_within, fixed_with_rows, numbers_with_rows, views_with_rows,
+    are_of_view, are_of_width, bytes_within, fixed_with_rows, numbers_with_rows, push_rows,
+    views_with_rows,
 };
 use column_utf8::Utf8Array;
 use std::alloc::Global;
@@ -31,8 +33,9 @@ use std::alloc::Global;
 /// The slots as they are, and after them one of each row: valid, with its bytes, or null where the row is missing, with
 /// zeros where slots have a width and else without bytes. The column is consumed.
 ///
-/// With offsets the lists are new. With views the column's views and buffers stay, and the further buffers are, end to
-/// end, the rows that have more than 12 bytes.
+/// With offsets, these begin at 0 afterwards; where they did before, the memory of lists that no other column shares is
+/// kept. With views the column's views and buffers stay, and the further buffers are, end to end, the rows that have more
+/// than 12 bytes.
 ///
 /// `InvalidUtf8` where the column is one of texts and a row is not UTF-8. `WrongLength` where slots have a width, of 8
 /// bytes for numbers, and a row has another length. `Overflow` with offsets where the bytes of all slots and rows together
@@ -65,7 +68,7 @@ fn append_bytes<O: Offset>(
 ) -> Result<BinaryArray<O>, PolarsError>
     ensures { AnswersStep (λ new. offset_column O.IS_LARGE false new) (offset_column O.IS_LARGE false array) (Append rows.now) result }
 {
-    let new = appended(alloc, &array, rows)?;
+    let new = appended(alloc, array, rows)?;
     Column::known(&new);
     Ok(new)
 }
@@ -81,7 +84,7 @@ fn append_texts<O: Offset>(
     if !are_texts(rows) {
         return Err(Cause::InvalidUtf8.into());
     }
-    let (_, offsets, values, validity) = appended(alloc, &array.into_binary(), rows)?.into_inner();
+    let (_, offsets, values, validity) = appended(alloc, array.into_binary(), rows)?.into_inner();
     let texts = Utf8Array::new_unchecked(
         Utf8Array::<O>::default_dtype(),
         offsets,
@@ -107,17 +110,17 @@ fn are_texts(rows: &Rows) -> bool
     true
 }
 
-/// The slots and the rows written anew.
+/// The slots, and after them those of the rows, with offsets from 0.
 ///
 /// `Overflow` where their bytes together pass the greatest offset.
 fn appended<O: Offset>(
     alloc: Global,
-    array: &BinaryArray<O>,
+    array: BinaryArray<O>,
     rows: &Rows,
 ) -> Result<BinaryArray<O>, PolarsError>
-    ensures { let slots = offset_slots array.now ++ map slot_of rows.now in AnswersFirst result (bytes_fault (Some O.GREATEST) slots) (λ new. new ≡ written_lists slots) }
+    ensures { let slots = offset_slots array ++ map slot_of rows.now in AnswersFirst result (bytes_fault (Some O.GREATEST) slots) (λ new. new ≡ written_lists slots) }
 {
-    match bytes_within(rows, O::GREATEST - used_bytes(array).len()) {
+    match bytes_within(rows, O::GREATEST - used_bytes(&array).len()) {
         Some(bytes) => fitting(alloc, array, rows, bytes),
         None => Err(Cause::Overflow.into()),
     }
@@ -125,17 +128,51 @@ fn appended<O: Offset>(
 
 fn fitting<O: Offset>(
     alloc: Global,
-    array: &BinaryArray<O>,
+    array: BinaryArray<O>,
     rows: &Rows,
     bytes: usize,
 ) -> Result<BinaryArray<O>, PolarsError>
-    requires { bytes_in (offset_slots array.now ++ map slot_of rows.now) ≤ O.GREATEST }
-    ensures { let slots = offset_slots array.now ++ map slot_of rows.now in Answers result None (λ new. new ≡ written_lists slots) }
+    requires { bytes_in (offset_slots array ++ map slot_of rows.now) ≤ O.GREATEST }
+    ensures { let slots = offset_slots array ++ map slot_of rows.now in Answers result None (λ new. new ≡ written_lists slots) }
 {
-    let mut builder = taken_over(alloc, array, rows.len(), bytes)?;
-    push_each(&mut builder, rows.as_slice().iter())?;
+    let mut builder = growing(alloc, array, rows.len(), bytes)?;
+    push_rows(&mut builder, rows)?;
     builder.known();
     builder.freeze()
+}
+
+/// A builder of the column's slots with offsets from 0, with room for `more` slots of `more_bytes` bytes.
+///
+/// The memory is kept where the first offset is 0 and no other column shares it, and is copied otherwise.
+fn growing<O: Offset>(
+    alloc: Global,
+    array: BinaryArray<O>,
+    more: usize,
+    more_bytes: usize,
+) -> Result<MutableBinaryArray<O>, PolarsError>
+    ensures { Answers result None (λ builder. HoldSlots builder.lists (offset_slots array)) }
+{
+    array.known();
+    if array.offsets().first().to_usize() == 0 {
+        kept(alloc, array, more, more_bytes)
+    } else {
+        taken_over(alloc, &array, more, more_bytes)
+    }
+}
+
+fn kept<O: Offset>(
+    alloc: Global,
+    array: BinaryArray<O>,
+    more: usize,
+    more_bytes: usize,
+) -> Result<MutableBinaryArray<O>, PolarsError>
+    requires { offset_at array.offsets 0 ≡ pos 0 }
+    ensures { Answers result None (λ builder. HoldSlots builder.lists (offset_slots array)) }
+{
+    array.known();
+    let mut builder = array.into_mut(alloc)?;
+    builder.reserve(more, more_bytes)?;
+    Ok(builder)
 }
 
 // ---- with views

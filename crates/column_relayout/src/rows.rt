@@ -1,8 +1,10 @@
 //! Rows that are appended to a column.
 
-ghost use Rattle.std.specs.Prelude.{◌≡◌, ◌<◌, ◌==◌, ◌++◌, ◌∷◌, [], None, length, map, option_map, slice_index_or, OnErr};
+ghost use Rattle.std.specs.Prelude.{◌≡◌, ◌<◌, ◌≤◌, ◌==◌, ◌+◌, ◌++◌, ◌∷◌, [], None, length, slice_index_or, OnErr};
 ghost use Rattle.std.specs.Option.{option_copied};
 ghost use Rattle.column_base.specs.Answers.{Answers};
+ghost use Rattle.column_base.specs.Lists.{sublist};
+ghost use Rattle.column_relayout.specs.Places.{bytes_of, place_after};
 
 use column_base::PolarsError;
 use column_rows::{ByteRows, RowList};
@@ -10,34 +12,54 @@ use std::alloc::Global;
 use std::marker::Model;
 
 /// A list of optional byte strings, which keeps its allocator. A row that is None is missing.
+///
+/// The bytes of all rows stand end to end, so a row takes no memory of its own.
 #[derive(Drop)]
 pub struct Rows {
-    rows: Vec<Option<Vec<u8>>>,
+    bytes: Vec<u8>,
+    places: Vec<Option<Place>>,
+}
+
+/// Where the bytes of a row stand among those of all.
+#[derive(Clone, Copy)]
+struct Place {
+    start: usize,
+    len: usize,
 }
 
 impl Model for Rows {
-    ghost use Rattle.std.specs.Prelude.{ℕ, List, Option, map, option_map};
+    ghost use Rattle.std.specs.Prelude.{ℕ, List, Option, length};
+    ghost use Rattle.column_relayout.specs.Places.{rows_at, AreWithin};
 
     ghost Value = { List (Option (List ℕ)) };
 
-    ghost view = { λ r. map (option_map (λ bytes. bytes.items)) r.rows.items };
+    ghost view = { λ r. rows_at r.bytes.items r.places.items };
+
+    ghost invariant = { λ r. AreWithin (length r.bytes.items) r.places.items };
 }
 
+#[tactic(auto, using(crate::proofs::PlacesLemmas::places))]
 impl Rows {
     /// No rows. Takes no memory.
     pub fn new(alloc: Global) -> Self
         ensures { result ≡ [] }
     {
         Rows {
-            rows: Vec::new(alloc),
+            bytes: Vec::new(alloc),
+            places: Vec::new(alloc),
         }
     }
 
-    /// These rows. Takes no memory.
-    pub fn from_vec(rows: Vec<Option<Vec<u8>>>) -> Self
-        ensures { result ≡ map (option_map (λ bytes. bytes.items)) rows.items }
+    /// No rows, with room for so many.
+    ///
+    /// `NoMemory` where there is none for them.
+    pub fn with_capacity(alloc: Global, capacity: usize) -> Result<Self, PolarsError>
+        ensures { Answers result None (λ r. r ≡ []) }
     {
-        Rows { rows }
+        Ok(Rows {
+            bytes: Vec::new(alloc),
+            places: Vec::with_capacity(alloc, capacity)?,
+        })
     }
 
     /// Adds a row, whose bytes are copied.
@@ -47,11 +69,8 @@ impl Rows {
         ensures answer { Answers result None (λ _. self.new ≡ self.old ++ option_copied row.entry ∷ []) }
         ensures unchanged { OnErr result (self.new ≡ self.old) }
     {
-        let row = match row {
-            Some(bytes) => Some(Vec::from_slice(*self.rows.allocator(), bytes)?),
-            None => None,
-        };
-        self.rows.push(row)?;
+        let place = add_bytes(&mut self.bytes, row)?;
+        self.places.push(place)?;
         Ok(())
     }
 
@@ -59,14 +78,14 @@ impl Rows {
     pub fn len(&self) -> usize
         ensures { result ≡ length self.now }
     {
-        self.rows.len()
+        self.places.len()
     }
 
     /// Whether there is no row.
     pub fn is_empty(&self) -> bool
         ensures { result ≡ (length self.now == 0) }
     {
-        self.rows.is_empty()
+        self.places.is_empty()
     }
 
     /// The bytes of row `i`, or None where it is missing.
@@ -74,17 +93,10 @@ impl Rows {
         requires { i < length self.now }
         ensures { option_copied result ≡ slice_index_or self.now i None }
     {
-        match &self.rows[i] {
-            Some(bytes) => Some(bytes.as_slice()),
+        match self.places[i] {
+            Some(place) => Some(bytes_at(&self.bytes, place)),
             None => None,
         }
-    }
-
-    // The rows, first to last.
-    pub(crate) fn as_slice(&self) -> &[Option<Vec<u8>>]
-        ensures { map (option_map (λ bytes. bytes.items)) result.now ≡ self.now }
-    {
-        self.rows.as_slice()
     }
 }
 
@@ -107,4 +119,30 @@ impl ByteRows for Rows {
     fn row(&self, i: usize) -> Option<&[u8]> {
         self.get(i)
     }
+}
+
+// The bytes of a row at the end of those of all, and their place.
+fn add_bytes(all: &mut Vec<u8>, row: Option<&[u8]>) -> Result<Option<Place>, PolarsError>
+    ensures answer { Answers result None (λ place. (place ≡ place_after (length all.old.items) (option_copied row.entry)) × (all.new.items ≡ all.old.items ++ bytes_of (option_copied row.entry))) }
+    ensures unchanged { OnErr result (all.new.items ≡ all.old.items) }
+{
+    let start = all.len();
+    match row {
+        Some(bytes) => {
+            all.extend_from_slice(bytes)?;
+            Ok(Some(Place {
+                start,
+                len: bytes.len(),
+            }))
+        }
+        None => Ok(None),
+    }
+}
+
+// The bytes at a place.
+fn bytes_at(all: &[u8], place: Place) -> &[u8]
+    requires { place.start + place.len ≤ length all.now }
+    ensures { result.now ≡ sublist all.now place.start place.len }
+{
+    &all[place.start..place.start + place.len]
 }

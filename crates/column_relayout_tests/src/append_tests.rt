@@ -6,8 +6,8 @@ use crate::cases::ColumnLists::{
 use crate::cases::Planned::{self, Append, Rebuild};
 use crate::cases::{ABC, EMPTY, kind_in, lists_of, three};
 use crate::checks::{
-    all_lead, buffers_hold, given_rows_are, no_rows_are, plan_leads, pushed_rows_are, step_leads,
-    step_refuses, step_wants_memory,
+    all_lead, buffers_hold, no_rows_are, plan_leads, pushed_rows_are, rows_with_room_are,
+    step_leads, step_refuses, step_wants_memory,
 };
 use column_base::Cause;
 use column_relayout::Kind;
@@ -16,7 +16,7 @@ use std::test::Fail;
 #[test]
 fn rows_are_read(rt: HostRuntime) -> Result<(), Fail> {
     assert!(rt; pushed_rows_are(rt.alloc())?);
-    assert!(rt; given_rows_are(rt.alloc())?);
+    assert!(rt; rows_with_room_are(rt.alloc())?);
     assert!(rt; no_rows_are(rt.alloc()));
     Ok(())
 }

@@ -590,11 +590,12 @@ pub fn no_rows_are(alloc: Global) -> bool {
     rows.is_empty() && rows.len() == 0
 }
 
-/// Whether the rows of a vector are read again.
-pub fn given_rows_are(alloc: Global) -> Result<bool, PolarsError> {
-    let row = Vec::from_slice(alloc, b"de")?;
-    let rows = vec![in alloc; Some(row), None]?;
-    Ok(are_two(&Rows::from_vec(rows)))
+/// Whether rows that are pushed where there is room for them are read again.
+pub fn rows_with_room_are(alloc: Global) -> Result<bool, PolarsError> {
+    let mut rows = Rows::with_capacity(alloc, 2)?;
+    rows.push(Some(b"de"))?;
+    rows.push(None)?;
+    Ok(are_two(&rows))
 }
 
 // ---- columns that are written anew

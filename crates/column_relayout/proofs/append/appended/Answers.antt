@@ -9,12 +9,12 @@ use Rattle.column_relayout.proofs.append.appended.Goals as goal
 
 pub overflow_sub-GREATEST : goal.overflow_sub-GREATEST
 overflow_sub-GREATEST g c =
-    let size : length c.used_bytes.result.now ≡ bytes_in (offset_slots c.args.array.now) = ap length c.used_bytes.ensures.bytes ∙ length-concat (offset_slots c.args.array.now) in
+    let size : length c.used_bytes.result.now ≡ bytes_in (offset_slots c.args.array) = ap length c.used_bytes.ensures.bytes ∙ length-concat (offset_slots c.args.array) in
     omega (arith, size, c.GREATEST.ensures, c.used_bytes.ensures.within_type)
 
 pub fitting-requires : goal.fitting-requires
 fitting-requires g c =
-    let slots = offset_slots c.args.array.now in
+    let slots = offset_slots c.args.array in
     let size : length c.used_bytes.result.now ≡ bytes_in slots = ap length c.used_bytes.ensures.bytes ∙ length-concat slots in
     let told = c.in-Some.ensures {u = tt} in
     let both = bytes_in-append slots (map slot_of c.args.rows.now) in
@@ -23,7 +23,7 @@ fitting-requires g c =
 
 pub returns-in-Some : goal.returns-in-Some
 returns-in-Some g c =
-    let slots = offset_slots c.args.array.now in
+    let slots = offset_slots c.args.array in
     let size : length c.used_bytes.result.now ≡ bytes_in slots = ap length c.used_bytes.ensures.bytes ∙ length-concat slots in
     let told = c.in-Some.ensures {u = tt} in
     let both = bytes_in-append slots (map slot_of c.args.rows.now) in
@@ -33,7 +33,7 @@ returns-in-Some g c =
 
 pub returns-in-None : goal.returns-in-None
 returns-in-None g c =
-    let slots = offset_slots c.args.array.now in
+    let slots = offset_slots c.args.array in
     let size : length c.used_bytes.result.now ≡ bytes_in slots = ap length c.used_bytes.ensures.bytes ∙ length-concat slots in
     let told = c.in-None.ensures {u = tt} in
     let both = bytes_in-append slots (map slot_of c.args.rows.now) in
