@@ -1,5 +1,5 @@
 -- Which answers steps and plans give.
-use Rattle.std.specs.Prelude.{◌≡◌, ◌⊎◌, ℕ, List, Some, None, Result, Ok, Err}
+use Rattle.std.specs.Prelude.{◌≡◌, ◌⊎◌, ℕ, Bool, true, false, List, Some, None, Result, Ok, Err}
 use Rattle.column_base.specs.declared.errors.Cause.{Cause}
 use Rattle.column_base.specs.declared.errors.PolarsError.{PolarsError}
 use Rattle.column_base.specs.declared.errors.PolarsError.TheVariants as errors
@@ -22,6 +22,16 @@ GivesStep lists old step answer = GivesCause answer (step_fault (column_kind old
 
 abbrev pub StepGives : RawLists → Step → Result AnyArray Cause → Type 0
 StepGives = GivesStep lists_of
+
+-- The same of a step that is taken in place: a column of the new lists, where it has no fault.
+abbrev pub CutsTo : {X : Type 0} → RawLists → Step → RawLists → Result X Cause → Type 0
+CutsTo old step new answer = GivesStep (λ _. new) old step answer
+
+-- The same of a step that is taken in place if it is a cut. Else the lists are the old ones.
+abbrev pub Cuts : RawLists → Step → RawLists → Result Bool Cause → Type 0
+Cuts old step new (Ok true) = (step_fault (column_kind old) (slots_of old) step ≡ None) × StepsTo old step new
+Cuts old step new (Ok false) = new ≡ old
+Cuts old step new (Err cause) = step_fault (column_kind old) (slots_of old) step ≡ Some cause
 
 -- Why a step is refused: its fault, or that it passes the bound on buffers.
 abbrev pub RefusesStep : RawLists → Step → Cause → Type 0

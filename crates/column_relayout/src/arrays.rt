@@ -25,11 +25,11 @@ pub(crate) trait Column: Drop {
         ensures slots { result ≡ list_length (slots_of (raw self.now)) }
         ensures count { result ≡ count_of (raw self.now) };
 
-    /// The `length` slots from slot `offset` on.
-    fn part(self, offset: usize, length: usize) -> Self
-        requires { offset + length ≤ count_of (raw self) }
-        ensures part { raw result ≡ part_of (raw self) offset length }
-        ensures slots { slots_of (raw result) ≡ sublist (slots_of (raw self)) offset length };
+    /// Keeps the `length` slots from slot `offset` on.
+    fn cut(&mut self, offset: usize, length: usize)
+        requires { offset + length ≤ count_of (raw self.old) }
+        ensures part { raw self.new ≡ part_of (raw self.old) offset length }
+        ensures slots { slots_of (raw self.new) ≡ sublist (slots_of (raw self.old)) offset length };
 }
 
 #[tactic(auto, using(crate::proofs::ColumnsLemmas::columns))]
@@ -47,8 +47,8 @@ impl<O: Offset> Column for BinaryArray<O> {
         self.len()
     }
 
-    fn part(self, offset: usize, length: usize) -> Self {
-        self.sliced(offset, length)
+    fn cut(&mut self, offset: usize, length: usize) {
+        self.slice(offset, length);
     }
 }
 
@@ -67,8 +67,8 @@ impl<O: Offset> Column for Utf8Array<O> {
         self.len()
     }
 
-    fn part(self, offset: usize, length: usize) -> Self {
-        self.sliced(offset, length)
+    fn cut(&mut self, offset: usize, length: usize) {
+        self.slice(offset, length);
     }
 }
 
@@ -86,8 +86,8 @@ impl<K: ViewKind> Column for BinaryViewArrayGeneric<K> {
         self.len()
     }
 
-    fn part(self, offset: usize, length: usize) -> Self {
-        self.sliced(offset, length)
+    fn cut(&mut self, offset: usize, length: usize) {
+        self.slice(offset, length);
     }
 }
 
@@ -105,8 +105,8 @@ impl Column for FixedSizeBinaryArray {
         self.len()
     }
 
-    fn part(self, offset: usize, length: usize) -> Self {
-        self.sliced(offset, length)
+    fn cut(&mut self, offset: usize, length: usize) {
+        self.slice(offset, length);
     }
 }
 
@@ -124,7 +124,7 @@ impl Column for Int64Array {
         self.len()
     }
 
-    fn part(self, offset: usize, length: usize) -> Self {
-        self.sliced(offset, length)
+    fn cut(&mut self, offset: usize, length: usize) {
+        self.slice(offset, length);
     }
 }

@@ -3,7 +3,7 @@
 ghost use Rattle.std.specs.Prelude.{◌≡◌, ◌+◌, nat_le};
 ghost use Rattle.column_relayout.specs.declared.steps.Step.TheVariants.{Slice, Left, Right};
 ghost use Rattle.column_relayout.specs.Arrays.{lists_of};
-ghost use Rattle.column_relayout.specs.Relayouts.{GivesStep, StepGives};
+ghost use Rattle.column_relayout.specs.Relayouts.{StepGives, CutsTo};
 
 use crate::arrays::Column;
 use crate::columns::AnyArray;
@@ -15,16 +15,9 @@ use column_base::Cause;
 pub fn step_slice(column: AnyArray, offset: usize, length: usize) -> Result<AnyArray, Cause>
     ensures { StepGives (lists_of column) (Slice offset length) result }
 {
-    match column {
-        AnyArray::Binary32(array) => Ok(AnyArray::Binary32(slice(array, offset, length)?)),
-        AnyArray::Binary64(array) => Ok(AnyArray::Binary64(slice(array, offset, length)?)),
-        AnyArray::Utf8_32(array) => Ok(AnyArray::Utf8_32(slice(array, offset, length)?)),
-        AnyArray::Utf8_64(array) => Ok(AnyArray::Utf8_64(slice(array, offset, length)?)),
-        AnyArray::BinView(array) => Ok(AnyArray::BinView(slice(array, offset, length)?)),
-        AnyArray::Utf8View(array) => Ok(AnyArray::Utf8View(slice(array, offset, length)?)),
-        AnyArray::Fixed(array) => Ok(AnyArray::Fixed(slice(array, offset, length)?)),
-        AnyArray::Int64(array) => Ok(AnyArray::Int64(slice(array, offset, length)?)),
-    }
+    let mut column = column;
+    cut_slice(&mut column, offset, length)?;
+    Ok(column)
 }
 
 /// The first `count` slots. The column is consumed. Takes no memory.
@@ -33,16 +26,9 @@ pub fn step_slice(column: AnyArray, offset: usize, length: usize) -> Result<AnyA
 pub fn step_left(column: AnyArray, count: usize) -> Result<AnyArray, Cause>
     ensures { StepGives (lists_of column) (Left count) result }
 {
-    match column {
-        AnyArray::Binary32(array) => Ok(AnyArray::Binary32(left(array, count)?)),
-        AnyArray::Binary64(array) => Ok(AnyArray::Binary64(left(array, count)?)),
-        AnyArray::Utf8_32(array) => Ok(AnyArray::Utf8_32(left(array, count)?)),
-        AnyArray::Utf8_64(array) => Ok(AnyArray::Utf8_64(left(array, count)?)),
-        AnyArray::BinView(array) => Ok(AnyArray::BinView(left(array, count)?)),
-        AnyArray::Utf8View(array) => Ok(AnyArray::Utf8View(left(array, count)?)),
-        AnyArray::Fixed(array) => Ok(AnyArray::Fixed(left(array, count)?)),
-        AnyArray::Int64(array) => Ok(AnyArray::Int64(left(array, count)?)),
-    }
+    let mut column = column;
+    cut_left(&mut column, count)?;
+    Ok(column)
 }
 
 /// The slots from slot `count` on. The column is consumed. Takes no memory.
@@ -51,53 +37,96 @@ pub fn step_left(column: AnyArray, count: usize) -> Result<AnyArray, Cause>
 pub fn step_right(column: AnyArray, count: usize) -> Result<AnyArray, Cause>
     ensures { StepGives (lists_of column) (Right count) result }
 {
+    let mut column = column;
+    cut_right(&mut column, count)?;
+    Ok(column)
+}
+
+// ---- the same in place
+
+/// Keeps the slots that [`step_slice`] gives.
+pub(crate) fn cut_slice(column: &mut AnyArray, offset: usize, length: usize) -> Result<(), Cause>
+    ensures { CutsTo (lists_of column.old) (Slice offset length) (lists_of column.new) result }
+{
     match column {
-        AnyArray::Binary32(array) => Ok(AnyArray::Binary32(right(array, count)?)),
-        AnyArray::Binary64(array) => Ok(AnyArray::Binary64(right(array, count)?)),
-        AnyArray::Utf8_32(array) => Ok(AnyArray::Utf8_32(right(array, count)?)),
-        AnyArray::Utf8_64(array) => Ok(AnyArray::Utf8_64(right(array, count)?)),
-        AnyArray::BinView(array) => Ok(AnyArray::BinView(right(array, count)?)),
-        AnyArray::Utf8View(array) => Ok(AnyArray::Utf8View(right(array, count)?)),
-        AnyArray::Fixed(array) => Ok(AnyArray::Fixed(right(array, count)?)),
-        AnyArray::Int64(array) => Ok(AnyArray::Int64(right(array, count)?)),
+        AnyArray::Binary32(array) => slice(array, offset, length),
+        AnyArray::Binary64(array) => slice(array, offset, length),
+        AnyArray::Utf8_32(array) => slice(array, offset, length),
+        AnyArray::Utf8_64(array) => slice(array, offset, length),
+        AnyArray::BinView(array) => slice(array, offset, length),
+        AnyArray::Utf8View(array) => slice(array, offset, length),
+        AnyArray::Fixed(array) => slice(array, offset, length),
+        AnyArray::Int64(array) => slice(array, offset, length),
+    }
+}
+
+/// Keeps the slots that [`step_left`] gives.
+pub(crate) fn cut_left(column: &mut AnyArray, count: usize) -> Result<(), Cause>
+    ensures { CutsTo (lists_of column.old) (Left count) (lists_of column.new) result }
+{
+    match column {
+        AnyArray::Binary32(array) => left(array, count),
+        AnyArray::Binary64(array) => left(array, count),
+        AnyArray::Utf8_32(array) => left(array, count),
+        AnyArray::Utf8_64(array) => left(array, count),
+        AnyArray::BinView(array) => left(array, count),
+        AnyArray::Utf8View(array) => left(array, count),
+        AnyArray::Fixed(array) => left(array, count),
+        AnyArray::Int64(array) => left(array, count),
+    }
+}
+
+/// Keeps the slots that [`step_right`] gives.
+pub(crate) fn cut_right(column: &mut AnyArray, count: usize) -> Result<(), Cause>
+    ensures { CutsTo (lists_of column.old) (Right count) (lists_of column.new) result }
+{
+    match column {
+        AnyArray::Binary32(array) => right(array, count),
+        AnyArray::Binary64(array) => right(array, count),
+        AnyArray::Utf8_32(array) => right(array, count),
+        AnyArray::Utf8_64(array) => right(array, count),
+        AnyArray::BinView(array) => right(array, count),
+        AnyArray::Utf8View(array) => right(array, count),
+        AnyArray::Fixed(array) => right(array, count),
+        AnyArray::Int64(array) => right(array, count),
     }
 }
 
 #[tactic(auto, using(crate::proofs::StepsLemmas::cut_laws))]
-fn slice<C: Column>(column: C, offset: usize, length: usize) -> Result<C, Cause>
-    ensures { GivesStep C.raw (C.raw column) (Slice offset length) result }
+fn slice<C: Column>(column: &mut C, offset: usize, length: usize) -> Result<(), Cause>
+    ensures { CutsTo (C.raw column.old) (Slice offset length) (C.raw column.new) result }
 {
     if is_within(column.count(), offset, length) {
-        let part = column.part(offset, length);
-        part.known();
-        Ok(part)
+        column.cut(offset, length);
+        column.known();
+        Ok(())
     } else {
         Err(Cause::StepRange)
     }
 }
 
 #[tactic(auto, using(crate::proofs::StepsLemmas::cut_laws))]
-fn left<C: Column>(column: C, count: usize) -> Result<C, Cause>
-    ensures { GivesStep C.raw (C.raw column) (Left count) result }
+fn left<C: Column>(column: &mut C, count: usize) -> Result<(), Cause>
+    ensures { CutsTo (C.raw column.old) (Left count) (C.raw column.new) result }
 {
     if count <= column.count() {
-        let part = column.part(0, count);
-        part.known();
-        Ok(part)
+        column.cut(0, count);
+        column.known();
+        Ok(())
     } else {
         Err(Cause::StepRange)
     }
 }
 
 #[tactic(auto, using(crate::proofs::StepsLemmas::cut_laws))]
-fn right<C: Column>(column: C, count: usize) -> Result<C, Cause>
-    ensures { GivesStep C.raw (C.raw column) (Right count) result }
+fn right<C: Column>(column: &mut C, count: usize) -> Result<(), Cause>
+    ensures { CutsTo (C.raw column.old) (Right count) (C.raw column.new) result }
 {
     let slots = column.count();
     if count <= slots {
-        let part = column.part(count, slots - count);
-        part.known();
-        Ok(part)
+        column.cut(count, slots - count);
+        column.known();
+        Ok(())
     } else {
         Err(Cause::StepRange)
     }

@@ -3,17 +3,17 @@
 ghost use Rattle.std.specs.Prelude.{◌≡◌, ◌≢◌, true};
 ghost use Rattle.column_relayout.specs.Plans.{is_light, IsLight};
 ghost use Rattle.column_relayout.specs.Arrays.{lists_of, lists_of_parts};
-ghost use Rattle.column_relayout.specs.Relayouts.{StepAnswers, step_error, Relayouts};
+ghost use Rattle.column_relayout.specs.Relayouts.{Cuts, StepAnswers, step_error, Relayouts};
 
 use crate::append::step_append;
 use crate::assembly::assemble;
 use crate::columns::{AnyArray, ColumnError, RawColumn};
 use crate::conversion::{step_to_binary, step_to_utf8};
-use crate::cut::{step_left, step_right, step_slice};
+use crate::cut::{cut_left, cut_right, cut_slice, step_left, step_right, step_slice};
 use crate::gather::{step_dedupe, step_gc};
 use crate::rebuild::step_rebuild;
 use crate::steps::Step;
-use column_base::PolarsError;
+use column_base::{Cause, PolarsError};
 use std::alloc::Global;
 
 /// The column that the plan's steps make of the parts, one after the other. The parts are consumed on every answer.
@@ -33,10 +33,16 @@ pub fn relayout(alloc: Global, parts: RawColumn, plan: &[Step]) -> Result<AnyArr
         Err(cause) => return Err(ColumnError::Parts(cause)),
     };
     for (i, step) in plan.iter().enumerate() {
-        column = match apply(alloc, column, step) {
-            Ok(next) => next,
-            Err(error) => return Err(step_error(i, error)),
+        let is_cut = match cut(&mut column, step) {
+            Ok(is_cut) => is_cut,
+            Err(cause) => return Err(ColumnError::Step(i, cause)),
         };
+        if !is_cut {
+            column = match apply(alloc, column, step) {
+                Ok(next) => next,
+                Err(error) => return Err(step_error(i, error)),
+            };
+        }
     }
     Ok(column)
 }
@@ -50,6 +56,27 @@ fn step_error(at: usize, error: PolarsError) -> ColumnError
             ColumnError::Step(at, cause)
         }
         PolarsError::NoMemory => ColumnError::NoMemory,
+    }
+}
+
+/// Whether the step takes a part of the column's slots. Such a step is taken here, in place.
+fn cut(column: &mut AnyArray, step: &Step) -> Result<bool, Cause>
+    ensures { Cuts (lists_of column.old) step.now (lists_of column.new) result }
+{
+    match step {
+        Step::Slice(offset, length) => {
+            cut_slice(column, *offset, *length)?;
+            Ok(true)
+        }
+        Step::Left(count) => {
+            cut_left(column, *count)?;
+            Ok(true)
+        }
+        Step::Right(count) => {
+            cut_right(column, *count)?;
+            Ok(true)
+        }
+        _ => Ok(false),
     }
 }
 

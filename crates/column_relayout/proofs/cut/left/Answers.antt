@@ -7,5 +7,5 @@ pub returns-then-count : goal.returns-then-count
 returns-then-count g c =
     let within : c.args.count ≤ c.count.result = omega (arith, c.if-count.true) in (
       left_fault _ _ c.args.count ∙ range_fits _ c.args.count (omega (arith, c.count.ensures.slots)),
-      left_steps (g.C.Column.raw c.args.column) (g.C.Column.raw c.part-part.result) c.args.count c.part-part.ensures.part c.part-part.ensures.slots c.known.ensures,
+      left_steps (g.C.Column.raw c.args.column.now) (g.C.Column.raw c.cut.new.self) c.args.count c.cut.ensures.part c.cut.ensures.slots c.known.ensures,
     )

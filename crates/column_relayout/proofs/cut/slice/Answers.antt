@@ -9,5 +9,5 @@ returns-then-is_within g c =
     let test : nat_le (c.args.offset + c.args.length) c.count.result ≡ true = sym c.is_within.ensures ∙ c.if-is_within.true in
     let within : c.args.offset + c.args.length ≤ c.count.result = grind (arith, nat_tests) in (
       slice_fault _ _ c.args.offset c.args.length ∙ range_fits _ (c.args.offset + c.args.length) (omega (arith, c.count.ensures.slots)),
-      slice_steps (g.C.Column.raw c.args.column) (g.C.Column.raw c.part-part.result) c.args.offset c.args.length c.part-part.ensures.part c.part-part.ensures.slots c.known.ensures,
+      slice_steps (g.C.Column.raw c.args.column.now) (g.C.Column.raw c.cut.new.self) c.args.offset c.args.length c.cut.ensures.part c.cut.ensures.slots c.known.ensures,
     )
