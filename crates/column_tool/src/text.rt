@@ -1,6 +1,6 @@
 //! The printed text of a column, of a refusal, and of the fault of a document.
 
-ghost use Rattle.std.specs.Prelude.{◌≡◌, ◌≢◌, ◌<◌, ◌++◌, length as list_length, IfOk, OnOk, decimal, None, map, codes};
+ghost use Rattle.std.specs.Prelude.{◌≡◌, ◌≢◌, ◌+◌, ◌*◌, ◌<◌, ◌++◌, length as list_length, replicate, IfOk, OnOk, decimal, None, map, codes};
 ghost use Rattle.std.specs.List.{flat_map};
 ghost use Rattle.std.specs.Fmt.{signed_decimal};
 ghost use Rattle.hex.specs.Hex.{encode_lower};
@@ -50,18 +50,29 @@ impl PrintedOffset for i64 {
     ghost is_decimal = { λ n. refl };
 }
 
-fn append_hex(text: &mut Vec<u8>, bytes: &[u8]) -> Result<(), AllocError>
-    ensures { OnOk result (text.new.items ≡ text.old.items ++ encode_lower bytes.now) }
+/// Writes bytes in hexadecimal before the last byte of a line of line feeds.
+fn write_hex(line: &mut [u8], bytes: &[u8])
+    requires { line.old ≡ replicate (2 * list_length bytes.now + 1) 10 }
+    ensures { line.new ≡ encode_lower bytes.now ++ codes "\n" }
 {
-    let start = text.len();
-    let Some(end) = start.checked_add(2 * bytes.len()) else {
-        return Err(AllocError);
-    };
-    text.resize(end, 0)?;
-    match hex::encode_to_slice(bytes, &mut text[start..]) {
-        Ok(()) => Ok(()),
+    let digits = 2 * bytes.len();
+    match hex::encode_to_slice(bytes, &mut line[..digits]) {
+        Ok(()) => {}
         Err(_) => unreachable!(),
     }
+}
+
+/// Adds bytes in hexadecimal, and a line feed.
+fn append_hex_line(text: &mut Vec<u8>, bytes: &[u8]) -> Result<(), AllocError>
+    ensures { OnOk result (text.new.items ≡ text.old.items ++ (encode_lower bytes.now ++ codes "\n")) }
+{
+    let start = text.len();
+    let Some(end) = start.checked_add(2 * bytes.len() + 1) else {
+        return Err(AllocError);
+    };
+    text.resize(end, b'\n')?;
+    write_hex(&mut text[start..], bytes);
+    Ok(())
 }
 
 fn append_number<N: Integer>(text: &mut Vec<u8>, number: N) -> Result<(), AllocError>
@@ -74,9 +85,7 @@ fn append_slot(text: &mut Vec<u8>, valid: bool, bytes: &[u8]) -> Result<(), Allo
     ensures { OnOk result (text.new.items ≡ text.old.items ++ (sign_of valid ++ encode_lower bytes.now ++ codes "\n")) }
 {
     text.push(if valid { b'+' } else { b'-' })?;
-    append_hex(text, bytes)?;
-    text.push(b'\n')?;
-    Ok(())
+    append_hex_line(text, bytes)
 }
 
 // ---- columns
@@ -233,9 +242,7 @@ fn append_named(text: &mut Vec<u8>, name: &[u8], bytes: &[u8]) -> Result<(), All
     ensures { OnOk result (text.new.items ≡ text.old.items ++ named_line name.now bytes.now) }
 {
     text.extend_from_slice(name)?;
-    append_hex(text, bytes)?;
-    text.push(b'\n')?;
-    Ok(())
+    append_hex_line(text, bytes)
 }
 
 #[tactic(auto, using(crate::proofs::TextLemmas::next_named))]
