@@ -1,5 +1,5 @@
 -- The place that is read is within the bytes.
-use Rattle.std.proofs.Common.{◌≡◌, ◌∙◌, ◌≤◌, ◌+◌, ℕ, List, Some, ap, length, sym, arith}
+use Rattle.std.proofs.Common.{◌∙◌, ℕ, List, Some, ap, length, arith}
 use Rattle.column_base.specs.Lists.{sublist}
 use Rattle.column_relayout.proofs.PlacesLemmas.{given_row, missing_row, given_within}
 use Rattle.column_relayout.proofs.rows.Rows.get.Goals as goal
