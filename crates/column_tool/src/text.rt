@@ -1,6 +1,6 @@
 //! The printed text of a column, of a refusal, and of the fault of a document.
 
-ghost use Rattle.std.specs.Prelude.{◌≡◌, ◌≢◌, ◌+◌, ◌*◌, ◌<◌, ◌++◌, length as list_length, replicate, IfOk, OnOk, decimal, None, map, codes};
+ghost use Rattle.std.specs.Prelude.{◌≡◌, ◌≢◌, ◌+◌, ◌*◌, ◌<◌, ◌++◌, length as list_length, replicate, IfOk, OnOk, decimal, [], None, map, codes};
 ghost use Rattle.std.specs.List.{flat_map};
 ghost use Rattle.std.specs.Fmt.{signed_decimal};
 ghost use Rattle.hex.specs.Hex.{encode_lower};
@@ -90,6 +90,25 @@ fn append_slot(text: &mut Vec<u8>, valid: bool, bytes: &[u8]) -> Result<(), Allo
 
 // ---- columns
 
+// Bytes of text for a slot: of its line without digits, of a number in a list, and of the line of a view.
+const SLOT: usize = 2;
+
+const NUMBER: usize = 21;
+
+const VIEW: usize = 38;
+
+/// No text, with room for `slots` lines of `line` bytes each, for `bytes` bytes in hexadecimal, and for names.
+fn no_text(alloc: Global, slots: usize, line: usize, bytes: u128) -> Result<Vec<u8>, AllocError>
+    ensures { IfOk result (λ text. text.items ≡ []) }
+{
+    let lines = (slots as u128).saturating_mul(line as u128);
+    let room = bytes
+        .saturating_mul(2)
+        .saturating_add(lines)
+        .saturating_add(64);
+    Vec::with_capacity(alloc, room.min(usize::MAX as u128) as usize)
+}
+
 /// Arrays as they are printed.
 trait Printed {
     ghost use Rattle.std.specs.Prelude.{ℕ, List};
@@ -103,6 +122,10 @@ trait Printed {
     /// The number of slots.
     fn count(&self) -> usize
         ensures { result ≡ list_length (slots self.now) };
+
+    /// No text, with room for the lines of the slots and of the lists.
+    fn no_lines(&self, alloc: Global) -> Result<Vec<u8>, AllocError>
+        ensures { IfOk result (λ text. text.items ≡ []) };
 
     /// Adds the line of slot `i`. A null slot has bytes too.
     fn append_slot_at(&self, text: &mut Vec<u8>, i: usize) -> Result<(), AllocError>
@@ -121,6 +144,15 @@ impl<O: PrintedOffset> Printed for BinaryArray<O> {
 
     fn count(&self) -> usize {
         self.len()
+    }
+
+    fn no_lines(&self, alloc: Global) -> Result<Vec<u8>, AllocError> {
+        no_text(
+            alloc,
+            self.len(),
+            SLOT + NUMBER,
+            2 * self.values().len() as u128,
+        )
     }
 
     fn append_slot_at(&self, text: &mut Vec<u8>, i: usize) -> Result<(), AllocError> {
@@ -145,6 +177,14 @@ impl<K: ViewKind> Printed for BinaryViewArrayGeneric<K> {
         self.len()
     }
 
+    fn no_lines(&self, alloc: Global) -> Result<Vec<u8>, AllocError> {
+        let names = 4 * self.data_buffers().len() as u128;
+        let bytes = self
+            .total_bytes_len()
+            .saturating_add(self.total_buffer_len());
+        no_text(alloc, self.len(), SLOT + VIEW, bytes.saturating_add(names))
+    }
+
     fn append_slot_at(&self, text: &mut Vec<u8>, i: usize) -> Result<(), AllocError> {
         self.known();
         append_slot(text, self.is_valid(i), self.value_bytes(i))
@@ -163,6 +203,10 @@ impl Printed for FixedSizeBinaryArray {
 
     fn count(&self) -> usize {
         self.len()
+    }
+
+    fn no_lines(&self, alloc: Global) -> Result<Vec<u8>, AllocError> {
+        no_text(alloc, self.len(), SLOT, 2 * self.values().len() as u128)
     }
 
     fn append_slot_at(&self, text: &mut Vec<u8>, i: usize) -> Result<(), AllocError> {
@@ -185,6 +229,10 @@ impl Printed for Int64Array {
 
     fn count(&self) -> usize {
         self.len()
+    }
+
+    fn no_lines(&self, alloc: Global) -> Result<Vec<u8>, AllocError> {
+        no_text(alloc, self.len(), SLOT + 16 + NUMBER, 0)
     }
 
     fn append_slot_at(&self, text: &mut Vec<u8>, i: usize) -> Result<(), AllocError> {
@@ -277,7 +325,7 @@ fn append_head(text: &mut Vec<u8>, kind: &str, count: usize) -> Result<(), Alloc
 fn array_text<A: Printed>(alloc: Global, kind: Kind, array: &A) -> Result<Vec<u8>, AllocError>
     ensures { IfOk result (λ text. text.items ≡ printed_head (kind_of kind) (A.slots array.now) ++ A.lists array.now) }
 {
-    let mut text = Vec::new(alloc);
+    let mut text = array.no_lines(alloc)?;
     append_head(&mut text, kind.name(), array.count())?;
     append_slots(&mut text, array)?;
     array.append_lists(&mut text)?;
