@@ -1,6 +1,6 @@
 //! Rows that are appended to a column.
 
-ghost use Rattle.std.specs.Prelude.{◌++◌, ◌∷◌, [], Some, option_map};
+ghost use Rattle.std.specs.Prelude.{◌≡◌, ◌++◌, ◌∷◌, ◌/◌, [], Some, length, option_map};
 ghost use Rattle.std.specs.Option.{option_copied};
 ghost use Rattle.serde_json.specs.View.{view, items_view};
 ghost use Rattle.column_document.specs.Values.{Reads, ReadsAs, each, list_of, row_of, bytes_of};
@@ -9,6 +9,9 @@ use crate::from_json::{FromJson, Unread};
 use column_relayout::Rows;
 use serde_json::Value;
 use std::alloc::Global;
+
+// The most bytes of a row that are decoded on the stack.
+const FEW: usize = 64;
 
 impl FromJson for Rows {
     ghost of = { list_of row_of };
@@ -21,7 +24,7 @@ impl FromJson for Rows {
     }
 }
 
-/// The rows, each decoded once. The memory in which the bytes of one are decoded serves for the next.
+/// The rows, each decoded once. The memory in which the bytes of a long one are decoded serves for the next.
 fn read_rows(alloc: Global, values: &[Value]) -> Result<Rows, Unread>
     ensures { Reads result (each row_of (items_view values.now)) }
 {
@@ -43,17 +46,37 @@ fn no_rows(alloc: Global, capacity: usize) -> Result<Rows, Unread>
     }
 }
 
-/// Adds the row that a value stands for, whose bytes are decoded into `decoded`.
+/// Adds the row that a value stands for. The bytes of a long one are decoded into `decoded`.
 fn add_row(rows: &mut Rows, decoded: &mut Vec<u8>, value: &Value) -> Result<(), Unread>
     ensures { ReadsAs (λ _. rows.new) result (option_map (λ row. rows.old ++ row ∷ []) (row_of (view value.now))) }
 {
     match value {
         Value::Null => push_row(rows, None),
-        Value::String(digits) => {
-            decode_into(decoded, digits.as_str())?;
-            push_row(rows, Some(decoded.as_slice()))
-        }
+        Value::String(digits) => add_bytes(rows, decoded, digits.as_str()),
         _ => Err(Unread::Bad),
+    }
+}
+
+/// Adds the row that a text of hexadecimal digits spells. Its bytes are decoded on the stack where they are few.
+fn add_bytes(rows: &mut Rows, decoded: &mut Vec<u8>, text: &str) -> Result<(), Unread>
+    ensures { ReadsAs (λ _. rows.new) result (option_map (λ bytes. rows.old ++ Some bytes ∷ []) (bytes_of text.now)) }
+{
+    let length = text.len() / 2;
+    if length <= FEW {
+        return add_decoded(rows, &mut [0; FEW][..length], text);
+    }
+    decoded.resize(length, 0)?;
+    add_decoded(rows, decoded.as_mut_slice(), text)
+}
+
+/// Adds the row that a text of hexadecimal digits spells, whose bytes are decoded into `bytes`.
+fn add_decoded(rows: &mut Rows, bytes: &mut [u8], text: &str) -> Result<(), Unread>
+    requires { length bytes.old ≡ length text.now / 2 }
+    ensures { ReadsAs (λ _. rows.new) result (option_map (λ row. rows.old ++ Some row ∷ []) (bytes_of text.now)) }
+{
+    match hex::decode_to_slice(text, bytes) {
+        Ok(()) => push_row(rows, Some(bytes)),
+        Err(_) => Err(Unread::Bad),
     }
 }
 
@@ -63,16 +86,5 @@ fn push_row(rows: &mut Rows, row: Option<&[u8]>) -> Result<(), Unread>
     match rows.push(row) {
         Ok(()) => Ok(()),
         Err(_) => Err(Unread::NoMemory),
-    }
-}
-
-/// The bytes that a text of hexadecimal digits spells, in the place of those that were there.
-fn decode_into(bytes: &mut Vec<u8>, text: &str) -> Result<(), Unread>
-    ensures { ReadsAs (λ _. bytes.new.items) result (bytes_of text.now) }
-{
-    bytes.resize(text.len() / 2, 0)?;
-    match hex::decode_to_slice(text, bytes.as_mut_slice()) {
-        Ok(()) => Ok(()),
-        Err(_) => Err(Unread::Bad),
     }
 }
