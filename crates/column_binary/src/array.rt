@@ -366,7 +366,7 @@ impl<O: Offset> BinaryArray<O> {
     {
         self.known();
         self.offsets.slice(offset, length + 1);
-        self.validity = slice_validity(self.validity.take(), offset, length);
+        slice_validity(&mut self.validity, offset, length);
     }
 
     /// The same as [`BinaryArray::slice`].

@@ -411,7 +411,7 @@ impl<K: ViewKind> BinaryViewArrayGeneric<K> {
     {
         self.total_bytes_len = None;
         self.views.slice(offset, length);
-        self.validity = slice_validity(self.validity.take(), offset, length);
+        slice_validity(&mut self.validity, offset, length);
     }
 
     /// The same as [`BinaryViewArrayGeneric::slice`].

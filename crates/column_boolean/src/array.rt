@@ -261,7 +261,7 @@ impl BooleanArray {
         ensures { IsPart self.old offset length self.new }
     {
         self.values.slice(offset, length);
-        self.validity = slice_validity(self.validity.take(), offset, length);
+        slice_validity(&mut self.validity, offset, length);
     }
 
     /// The same as [`BooleanArray::slice`].

@@ -318,7 +318,7 @@ impl FixedSizeBinaryArray {
     {
         self.known();
         self.values.slice(offset * self.size, length * self.size);
-        self.validity = slice_validity(self.validity.take(), offset, length);
+        slice_validity(&mut self.validity, offset, length);
     }
 
     /// The same as [`FixedSizeBinaryArray::slice`].

@@ -351,7 +351,7 @@ impl<T: NativeType> PrimitiveArray<T> {
     {
         self.known();
         self.values.slice(offset, length);
-        self.validity = slice_validity(self.validity.take(), offset, length);
+        slice_validity(&mut self.validity, offset, length);
     }
 
     /// The same as [`PrimitiveArray::slice`].

@@ -48,20 +48,24 @@ pub fn share_validity(
     }
 }
 
-/// The validity of the `length` slots from slot `offset` on: there where one is given and one of these slots is null.
+/// Keeps the flags of the `length` slots from slot `offset` on: none where none is given or no such slot is null.
 ///
 /// Takes no memory. `offset` and `length` count slots. The bits are shared; of a validity in which no slot is null none
 /// is read, and else those of the smaller of the part kept and the parts cut off. Arrow columnar format, "Validity
 /// bitmaps".
-pub fn slice_validity(validity: Option<Bitmap>, offset: usize, length: usize) -> Option<Bitmap>
-    requires { IfSome validity (λ bits. offset + length ≤ list_length bits) }
-    ensures { result ≡ sliced_flags validity offset length }
+pub fn slice_validity(validity: &mut Option<Bitmap>, offset: usize, length: usize)
+    requires { IfSome validity.old (λ bits. offset + length ≤ list_length bits) }
+    ensures { validity.new ≡ sliced_flags validity.old offset length }
 {
-    let part = validity?.sliced(offset, length);
-    if part.unset_bits() == 0 {
-        None
-    } else {
-        Some(part)
+    let has_null = match validity {
+        Some(bits) => {
+            bits.slice(offset, length);
+            bits.unset_bits() > 0
+        }
+        None => true,
+    };
+    if !has_null {
+        *validity = None;
     }
 }
 

@@ -16,8 +16,9 @@ fn nulls_of_part(validity: Bitmap, from: usize, length: usize) -> Option<usize> 
     if from > validity.len() || length > validity.len() - from {
         return None;
     }
-    let part = slice_validity(Some(validity), from, length)?;
-    Some(null_count(Some(&part)))
+    let mut part = Some(validity);
+    slice_validity(&mut part, from, length);
+    Some(null_count(Some(&part?)))
 }
 
 pub fn part_has(
@@ -34,7 +35,9 @@ pub fn set_part_has_none(alloc: Global) -> Result<bool, PolarsError> {
 }
 
 pub fn none_has_no_part() -> bool {
-    slice_validity(None, 3, 4).is_none() && null_count(None) == 0
+    let mut part = None;
+    slice_validity(&mut part, 3, 4);
+    part.is_none() && null_count(None) == 0
 }
 
 pub fn nulls_are_counted(alloc: Global) -> Result<bool, PolarsError> {
