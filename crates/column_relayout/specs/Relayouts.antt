@@ -3,7 +3,7 @@ use Rattle.std.specs.Prelude.{◌≡◌, ◌⊎◌, ℕ, Bool, true, false, List
 use Rattle.column_base.specs.declared.errors.Cause.{Cause}
 use Rattle.column_base.specs.declared.errors.PolarsError.{PolarsError}
 use Rattle.column_base.specs.declared.errors.PolarsError.TheVariants as errors
-use Rattle.column_base.specs.declared.errors.Cause.TheVariants.{Overflow}
+use Rattle.column_base.specs.declared.errors.Cause.TheVariants.{Overflow, StepRange}
 use Rattle.column_base.specs.Answers.{GivesCause}
 use Rattle.column_base.specs.Errors.{error_of}
 use Rattle.column_relayout.specs.declared.columns.AnyArray.{AnyArray}
@@ -23,9 +23,10 @@ GivesStep lists old step answer = GivesCause answer (step_fault (column_kind old
 abbrev pub StepGives : RawLists → Step → Result AnyArray Cause → Type 0
 StepGives = GivesStep lists_of
 
--- The same of a step that is taken in place: a column of the new lists, where it has no fault.
-abbrev pub CutsTo : {X : Type 0} → RawLists → Step → RawLists → Result X Cause → Type 0
-CutsTo old step new answer = GivesStep (λ _. new) old step answer
+-- The same of a cut that is taken in place: a column of the new lists, or `StepRange`.
+abbrev pub CutsTo : RawLists → Step → RawLists → Bool → Type 0
+CutsTo old step new true = (step_fault (column_kind old) (slots_of old) step ≡ None) × StepsTo old step new
+CutsTo old step new false = step_fault (column_kind old) (slots_of old) step ≡ Some StepRange
 
 -- The same of a step that is taken in place if it is a cut. Else the lists are the old ones.
 abbrev pub Cuts : RawLists → Step → RawLists → Result Bool Cause → Type 0

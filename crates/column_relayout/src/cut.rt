@@ -16,8 +16,11 @@ pub fn step_slice(column: AnyArray, offset: usize, length: usize) -> Result<AnyA
     ensures { StepGives (lists_of column) (Slice offset length) result }
 {
     let mut column = column;
-    cut_slice(&mut column, offset, length)?;
-    Ok(column)
+    if cut_slice(&mut column, offset, length) {
+        Ok(column)
+    } else {
+        Err(Cause::StepRange)
+    }
 }
 
 /// The first `count` slots. The column is consumed. Takes no memory.
@@ -27,8 +30,11 @@ pub fn step_left(column: AnyArray, count: usize) -> Result<AnyArray, Cause>
     ensures { StepGives (lists_of column) (Left count) result }
 {
     let mut column = column;
-    cut_left(&mut column, count)?;
-    Ok(column)
+    if cut_left(&mut column, count) {
+        Ok(column)
+    } else {
+        Err(Cause::StepRange)
+    }
 }
 
 /// The slots from slot `count` on. The column is consumed. Takes no memory.
@@ -38,14 +44,17 @@ pub fn step_right(column: AnyArray, count: usize) -> Result<AnyArray, Cause>
     ensures { StepGives (lists_of column) (Right count) result }
 {
     let mut column = column;
-    cut_right(&mut column, count)?;
-    Ok(column)
+    if cut_right(&mut column, count) {
+        Ok(column)
+    } else {
+        Err(Cause::StepRange)
+    }
 }
 
-// ---- the same in place
+// ---- the same in place. Each answers whether the part is among the slots
 
 /// Keeps the slots that [`step_slice`] gives.
-pub(crate) fn cut_slice(column: &mut AnyArray, offset: usize, length: usize) -> Result<(), Cause>
+pub(crate) fn cut_slice(column: &mut AnyArray, offset: usize, length: usize) -> bool
     ensures { CutsTo (lists_of column.old) (Slice offset length) (lists_of column.new) result }
 {
     match column {
@@ -61,7 +70,7 @@ pub(crate) fn cut_slice(column: &mut AnyArray, offset: usize, length: usize) -> 
 }
 
 /// Keeps the slots that [`step_left`] gives.
-pub(crate) fn cut_left(column: &mut AnyArray, count: usize) -> Result<(), Cause>
+pub(crate) fn cut_left(column: &mut AnyArray, count: usize) -> bool
     ensures { CutsTo (lists_of column.old) (Left count) (lists_of column.new) result }
 {
     match column {
@@ -77,7 +86,7 @@ pub(crate) fn cut_left(column: &mut AnyArray, count: usize) -> Result<(), Cause>
 }
 
 /// Keeps the slots that [`step_right`] gives.
-pub(crate) fn cut_right(column: &mut AnyArray, count: usize) -> Result<(), Cause>
+pub(crate) fn cut_right(column: &mut AnyArray, count: usize) -> bool
     ensures { CutsTo (lists_of column.old) (Right count) (lists_of column.new) result }
 {
     match column {
@@ -93,42 +102,42 @@ pub(crate) fn cut_right(column: &mut AnyArray, count: usize) -> Result<(), Cause
 }
 
 #[tactic(auto, using(crate::proofs::StepsLemmas::cut_laws))]
-fn slice<C: Column>(column: &mut C, offset: usize, length: usize) -> Result<(), Cause>
+fn slice<C: Column>(column: &mut C, offset: usize, length: usize) -> bool
     ensures { CutsTo (C.raw column.old) (Slice offset length) (C.raw column.new) result }
 {
     if is_within(column.count(), offset, length) {
         column.cut(offset, length);
         column.known();
-        Ok(())
+        true
     } else {
-        Err(Cause::StepRange)
+        false
     }
 }
 
 #[tactic(auto, using(crate::proofs::StepsLemmas::cut_laws))]
-fn left<C: Column>(column: &mut C, count: usize) -> Result<(), Cause>
+fn left<C: Column>(column: &mut C, count: usize) -> bool
     ensures { CutsTo (C.raw column.old) (Left count) (C.raw column.new) result }
 {
     if count <= column.count() {
         column.cut(0, count);
         column.known();
-        Ok(())
+        true
     } else {
-        Err(Cause::StepRange)
+        false
     }
 }
 
 #[tactic(auto, using(crate::proofs::StepsLemmas::cut_laws))]
-fn right<C: Column>(column: &mut C, count: usize) -> Result<(), Cause>
+fn right<C: Column>(column: &mut C, count: usize) -> bool
     ensures { CutsTo (C.raw column.old) (Right count) (C.raw column.new) result }
 {
     let slots = column.count();
     if count <= slots {
         column.cut(count, slots - count);
         column.known();
-        Ok(())
+        true
     } else {
-        Err(Cause::StepRange)
+        false
     }
 }
 

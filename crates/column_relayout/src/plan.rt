@@ -1,6 +1,7 @@
 //! Taking the steps of a plan.
 
-ghost use Rattle.std.specs.Prelude.{◌≡◌, ◌≢◌, true};
+ghost use Rattle.std.specs.Prelude.{◌≡◌, ◌≢◌, if◌then◌else◌, true, Ok, Err};
+ghost use Rattle.column_base.specs.declared.errors.Cause.TheVariants.{StepRange};
 ghost use Rattle.column_relayout.specs.Plans.{is_light, IsLight};
 ghost use Rattle.column_relayout.specs.Arrays.{lists_of, lists_of_parts};
 ghost use Rattle.column_relayout.specs.Relayouts.{Cuts, StepAnswers, step_error, Relayouts};
@@ -64,19 +65,21 @@ fn cut(column: &mut AnyArray, step: &Step) -> Result<bool, Cause>
     ensures { Cuts (lists_of column.old) step.now (lists_of column.new) result }
 {
     match step {
-        Step::Slice(offset, length) => {
-            cut_slice(column, *offset, *length)?;
-            Ok(true)
-        }
-        Step::Left(count) => {
-            cut_left(column, *count)?;
-            Ok(true)
-        }
-        Step::Right(count) => {
-            cut_right(column, *count)?;
-            Ok(true)
-        }
+        Step::Slice(offset, length) => taken(cut_slice(column, *offset, *length)),
+        Step::Left(count) => taken(cut_left(column, *count)),
+        Step::Right(count) => taken(cut_right(column, *count)),
         _ => Ok(false),
+    }
+}
+
+/// That a cut is taken: `StepRange` where its part passes the slots.
+fn taken(is_within: bool) -> Result<bool, Cause>
+    ensures { result ≡ (if is_within then Ok true else Err StepRange) }
+{
+    if is_within {
+        Ok(true)
+    } else {
+        Err(Cause::StepRange)
     }
 }
 
