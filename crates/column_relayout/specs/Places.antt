@@ -1,28 +1,31 @@
--- Rows whose bytes stand end to end, each at a place. This library's own.
-use Rattle.std.specs.Prelude.{ℕ, ◌+◌, ◌≤◌, List, [], length, map, Option, None, Some, option_map, ⊤}
+-- Rows at their places: few bytes in the place itself, and others end to end. This library's own.
+use Rattle.std.specs.Prelude.{ℕ, ◌≡◌, ◌+◌, ◌≤◌, ◌++◌, List, length, take, drop, map, Option, None, Some, ⊤}
 use Rattle.std.specs.List.{All}
 use Rattle.column_base.specs.Lists.{sublist}
+use Rattle.column_relayout.specs.declared.rows.TheConstants.{FEW}
 use Rattle.column_relayout.specs.declared.rows.Place.{Place}
+use Rattle.column_relayout.specs.declared.rows.Place.TheVariants.{Missing, Here, There}
 
--- the bytes at each place, and None where there is no place
-unfoldable pub rows_at : List ℕ → List (Option Place) → List (Option (List ℕ))
-rows_at bytes places = map (option_map (λ place. sublist bytes place.start place.len)) places
+-- the row at a place, among the bytes of longer rows
+abbrev pub row_at : List ℕ → Place → Option (List ℕ)
+row_at bytes Missing = None
+row_at bytes (Here count own) = Some (take count own)
+row_at bytes (There start n) = Some (sublist bytes start n)
 
--- a place ends within so many bytes
-abbrev pub IsWithin : ℕ → Option Place → Type 0
-IsWithin count None = ⊤
-IsWithin count (Some place) = place.start + place.len ≤ count
+unfoldable pub rows_at : List ℕ → List Place → List (Option (List ℕ))
+rows_at bytes places = map (row_at bytes) places
 
--- each place ends within so many bytes
-unfoldable pub AreWithin : ℕ → List (Option Place) → Type 0
-AreWithin count places = All (IsWithin count) places
+-- a place ends within so many bytes, or within its own
+abbrev pub IsWithin : ℕ → Place → Type 0
+IsWithin all Missing = ⊤
+IsWithin all (Here count own) = count ≤ FEW
+IsWithin all (There start n) = start + n ≤ all
 
--- the bytes that a row has
-abbrev pub bytes_of : Option (List ℕ) → List ℕ
-bytes_of None = []
-bytes_of (Some bytes) = bytes
+unfoldable pub AreWithin : ℕ → List Place → Type 0
+AreWithin all places = All (IsWithin all) places
 
--- the place of a row whose bytes are added after so many
-abbrev pub place_after : ℕ → Option (List ℕ) → Option Place
-place_after count None = None
-place_after count (Some bytes) = Some (record { start = count; len = length bytes })
+-- A row is at a place among the new bytes, which are the old ones and maybe more.
+pub record IsPlaced (old : List ℕ) (row : Option (List ℕ)) (place : Place) (new : List ℕ) : Type 0 where
+  pub placed : row_at new place ≡ row
+  pub within : IsWithin (length new) place
+  pub kept : new ≡ old ++ drop (length old) new

@@ -1,10 +1,10 @@
 //! Rows that are appended to a column.
 
-ghost use Rattle.std.specs.Prelude.{◌≡◌, ◌<◌, ◌≤◌, ◌==◌, ◌+◌, ◌++◌, ◌∷◌, [], None, length, slice_index_or, OnErr};
+ghost use Rattle.std.specs.Prelude.{◌≡◌, ◌<◌, ◌≤◌, ◌==◌, ◌+◌, ◌++◌, ◌∷◌, [], None, Some, length, take, slice_index_or, OnErr};
 ghost use Rattle.std.specs.Option.{option_copied};
 ghost use Rattle.column_base.specs.Answers.{Answers};
 ghost use Rattle.column_base.specs.Lists.{sublist};
-ghost use Rattle.column_relayout.specs.Places.{bytes_of, place_after};
+ghost use Rattle.column_relayout.specs.Places.{row_at, IsWithin, IsPlaced};
 
 use column_base::PolarsError;
 use column_rows::{ByteRows, RowList};
@@ -13,18 +13,23 @@ use std::marker::Model;
 
 /// A list of optional byte strings, which keeps its allocator. A row that is None is missing.
 ///
-/// The bytes of all rows stand end to end, so a row takes no memory of its own.
+/// A row of few bytes stands in its place, and the bytes of longer ones end to end, so a row takes no memory of its own.
 #[derive(Drop)]
 pub struct Rows {
     bytes: Vec<u8>,
-    places: Vec<Option<Place>>,
+    places: Vec<Place>,
 }
 
-/// Where the bytes of a row stand among those of all.
-#[derive(Clone, Copy)]
-struct Place {
-    start: usize,
-    len: usize,
+/// The most bytes of a row that stand in its place.
+const FEW: usize = 22;
+
+/// Where the bytes of a row are: nowhere where it is missing, here where they are few, or from a place on among those of
+/// longer rows.
+#[derive(Drop)]
+enum Place {
+    Missing,
+    Here(u8, [u8; FEW]),
+    There(usize, usize),
 }
 
 impl Model for Rows {
@@ -69,7 +74,7 @@ impl Rows {
         ensures answer { Answers result None (λ _. self.new ≡ self.old ++ option_copied row.entry ∷ []) }
         ensures unchanged { OnErr result (self.new ≡ self.old) }
     {
-        let place = add_bytes(&mut self.bytes, row)?;
+        let place = place_of(&mut self.bytes, row)?;
         self.places.push(place)?;
         Ok(())
     }
@@ -93,10 +98,7 @@ impl Rows {
         requires { i < length self.now }
         ensures { option_copied result ≡ slice_index_or self.now i None }
     {
-        match self.places[i] {
-            Some(place) => Some(bytes_at(&self.bytes, place)),
-            None => None,
-        }
+        placed(&self.bytes, &self.places[i])
     }
 }
 
@@ -121,28 +123,41 @@ impl ByteRows for Rows {
     }
 }
 
-// The bytes of a row at the end of those of all, and their place.
-fn add_bytes(all: &mut Vec<u8>, row: Option<&[u8]>) -> Result<Option<Place>, PolarsError>
-    ensures answer { Answers result None (λ place. (place ≡ place_after (length all.old.items) (option_copied row.entry)) × (all.new.items ≡ all.old.items ++ bytes_of (option_copied row.entry))) }
+// The place of a row. The bytes of a longer one are added to those of all.
+fn place_of(all: &mut Vec<u8>, row: Option<&[u8]>) -> Result<Place, PolarsError>
+    ensures answer { Answers result None (λ place. IsPlaced all.old.items (option_copied row.entry) place all.new.items) }
     ensures unchanged { OnErr result (all.new.items ≡ all.old.items) }
 {
-    let start = all.len();
     match row {
+        None => Ok(Place::Missing),
+        Some(bytes) if bytes.len() <= FEW => Ok(here(bytes)),
         Some(bytes) => {
+            let start = all.len();
             all.extend_from_slice(bytes)?;
-            Ok(Some(Place {
-                start,
-                len: bytes.len(),
-            }))
+            Ok(Place::There(start, bytes.len()))
         }
-        None => Ok(None),
     }
 }
 
-// The bytes at a place.
-fn bytes_at(all: &[u8], place: Place) -> &[u8]
-    requires { place.start + place.len ≤ length all.now }
-    ensures { result.now ≡ sublist all.now place.start place.len }
+// Few bytes, in the place of their row.
+fn here(bytes: &[u8]) -> Place
+    requires { length bytes.now ≤ FEW }
+    ensures row { row_at [] result ≡ Some bytes.now }
+    ensures within { IsWithin 0 result }
 {
-    &all[place.start..place.start + place.len]
+    let mut own = [0; FEW];
+    own[..bytes.len()].copy_from_slice(bytes);
+    Place::Here(bytes.len() as u8, own)
+}
+
+// The bytes at a place.
+fn placed<'a>(all: &'a [u8], place: &'a Place) -> Option<&'a [u8]>
+    requires { IsWithin (length all.now) place.now }
+    ensures { option_copied result ≡ row_at all.now place.now }
+{
+    match place {
+        Place::Missing => None,
+        Place::Here(count, own) => Some(&own[..*count as usize]),
+        Place::There(start, len) => Some(&all[*start..*start + *len]),
+    }
 }
