@@ -51,7 +51,7 @@ pub fn parse_document(alloc: Global, bytes: Vec<u8>) -> Result<(RawColumn, Vec<S
 /// `BadField` with the first field that is missing or bad. `Json` never comes, and `Unbuilt` can no longer come, since
 /// every word is built. `NoMemory` may come where a growth finds none.
 ///
-/// Takes time and memory by the length of the fields that are read; each list is decoded once, into its own memory.
+/// Takes time and memory by the length of the fields that are read; each list is decoded once.
 #[tactic(auto, using(crate::proofs::DocumentLemmas::other_faults), unfolding(crate::specs::Document::document_of))]
 pub fn read_document(alloc: Global, value: &Value) -> Result<(RawColumn, Vec<Step>), DocError>
     ensures said { ReadsFieldsAs (λ read. document read.0 read.1.items) result (document_of (view value.now)) }
