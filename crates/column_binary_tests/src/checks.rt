@@ -131,6 +131,16 @@ pub fn rows_are(array: &BinaryArray<i32>) -> bool {
     gives(array.into_iter(), &ROWS) && ends_are(array.iter(), ROWS)
 }
 
+/// Whether a `for` over the array comes to this row.
+pub fn has_row(array: &BinaryArray<i32>, wanted: Option<&[u8]>) -> bool {
+    for row in array {
+        if row == wanted {
+            return true;
+        }
+    }
+    false
+}
+
 pub fn values_are(array: &BinaryArray<i32>) -> bool {
     ends_are(array.values_iter(), VALUES)
         && gives(array.non_null_values_iter(), &[b"ab", b"", b"de"])

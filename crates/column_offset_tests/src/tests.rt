@@ -137,6 +137,21 @@ fn keys_end_at_their_types(rt: HostRuntime) {
 }
 
 #[test]
+fn greatest_keys_pass_as_many_slots(rt: HostRuntime) {
+    let past = |key: usize| Some(Cause::KeyOutOfRange { key, len: key });
+    assert!(rt;
+        raw::keys_are_told(&[i8::MAX], 127, past(127))
+            && raw::keys_are_told(&[i16::MAX], 32767, past(32767))
+            && raw::keys_are_told(&[i32::MAX], 2147483647, past(2147483647))
+            && raw::keys_are_told(&[i64::MAX], 9223372036854775807, past(9223372036854775807))
+    );
+    assert!(rt;
+        raw::keys_are_told(&[u16::MAX], 65535, past(65535))
+            && raw::keys_are_told(&[u32::MAX], 4294967296, None)
+    );
+}
+
+#[test]
 fn the_first_bad_key_answers(rt: HostRuntime) {
     let five = Some(Cause::KeyOutOfRange { key: 5, len: 3 });
     let negative = Some(Cause::KeyNotUsize);

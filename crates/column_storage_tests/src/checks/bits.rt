@@ -143,6 +143,15 @@ pub fn own_bits_are_changed(alloc: Global) -> Result<bool, PolarsError> {
     Ok(first_is_unset(flags(alloc)?.make_mut(alloc)?))
 }
 
+/// Bits that are changed become shared ones again.
+pub fn changed_bits_are_frozen(alloc: Global) -> Result<bool, PolarsError> {
+    let mut bits = flags(alloc)?.make_mut(alloc)?;
+    if !bits.is_empty() {
+        bits.set(0, false);
+    }
+    Ok(counts_are(&bits.freeze()?, 2, 2))
+}
+
 fn add_three(bits: &mut MutableBitmap) -> bool {
     bits.push(true).is_ok() && bits.extend_constant(2, false).is_ok()
 }

@@ -1,9 +1,9 @@
 use crate::cases::flags;
 use crate::checks::bits::{
     Call, an_unset_bit_is_a_validity, bits_are_added, bits_are_frozen, bits_are_taken,
-    bits_stay_where_room_goes, four_are_read, four_give, four_split, four_stay, operations_leave,
-    own_bits_are_changed, room_takes_bits, set_bits_are, set_bits_are_no_validity,
-    shared_bits_are_changed, unset_bits_are,
+    bits_stay_where_room_goes, changed_bits_are_frozen, four_are_read, four_give, four_split,
+    four_stay, operations_leave, own_bits_are_changed, room_takes_bits, set_bits_are,
+    set_bits_are_no_validity, shared_bits_are_changed, unset_bits_are,
 };
 use column_storage::BitOperation;
 use std::test::Fail;
@@ -39,6 +39,7 @@ fn bits_have_one_value(rt: HostRuntime) -> Result<(), Fail> {
     assert!(rt; set_bits_are(rt.alloc())?);
     assert!(rt; shared_bits_are_changed(rt.alloc())?);
     assert!(rt; own_bits_are_changed(rt.alloc())?);
+    assert!(rt; changed_bits_are_frozen(rt.alloc())?);
     Ok(())
 }
 
