@@ -2,10 +2,10 @@
 
 use crate::cases::{LONG, NONE, SHORT, buffer, long, source, stored, view};
 use column_base::PolarsError;
-use column_blocks::{Blocks, Sources, ViewRows, take_view};
+use column_blocks::{Blocks, Sources, ViewRows, stored_view_says_its_bytes, take_view};
 use column_checks::{Flags, grown_flags_are};
 use column_storage::{Buffer, MutableBitmap};
-use column_view::View;
+use column_view::{View, no_fault_in_each};
 use std::alloc::Global;
 
 // ---- blocks
@@ -59,6 +59,20 @@ fn views_stand(blocks: &mut Blocks) -> Result<bool, PolarsError> {
 pub fn views_are_given(alloc: Global) -> Result<bool, PolarsError> {
     let mut blocks = Blocks::from_buffers(vec![in alloc; buffer(alloc, b"x")?]?);
     views_stand(&mut blocks)
+}
+
+fn is_read_again(blocks: &mut Blocks, bytes: &[u8]) -> Result<bool, PolarsError> {
+    blocks.known();
+    let view = blocks.store(bytes)?;
+    stored_view_says_its_bytes();
+    no_fault_in_each();
+    Ok(blocks.value_from_view_unchecked(&view) == bytes)
+}
+
+/// Whether a short value and a long one are read again by their views.
+pub fn values_are_read_again(alloc: Global) -> Result<bool, PolarsError> {
+    let mut blocks = Blocks::new(alloc);
+    Ok(is_read_again(&mut blocks, b"abc")? && is_read_again(&mut blocks, LONG)?)
 }
 
 fn are_finished(blocks: &mut Blocks) -> bool {

@@ -3,7 +3,7 @@
 use crate::checks::{
     blocks_are_finished, buffers_are_pushed, buffers_are_taken_once, copy_goes_on,
     flags_are_changed, rows_are_extended, rows_are_pushed, rule_gives, slots_are_changed,
-    views_are_given,
+    values_are_read_again, views_are_given,
 };
 use column_blocks::{
     DEFAULT_BLOCK_SIZE, MAX_EXP_BLOCK_SIZE, blocks_stay_sound, calls_append,
@@ -55,6 +55,7 @@ fn bytes_stand_in_blocks(rt: HostRuntime) -> Result<(), Fail> {
 #[test]
 fn views_name_their_bytes(rt: HostRuntime) -> Result<(), Fail> {
     assert!(rt; views_are_given(rt.alloc())?);
+    assert!(rt; values_are_read_again(rt.alloc())?);
     assert!(rt; copy_goes_on(rt.alloc())?);
     Ok(())
 }
