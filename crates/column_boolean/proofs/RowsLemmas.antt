@@ -1,5 +1,5 @@
 -- Laws of lists that take rows, and of lists that are frozen.
-use Rattle.std.proofs.Common.{◌≡◌, ℕ, zero, suc, ◌+◌, ◌<◌, ◌≤◌, Bool, true, false, List, [], ◌∷◌, ◌++◌, length, map, take, replicate, Option, Some, None, refl, sym, ◌∙◌, ap, subst, arith}
+use Rattle.std.proofs.Common.{◌≡◌, ℕ, zero, suc, ◌+◌, ◌<◌, ◌≤◌, Bool, true, false, List, [], ◌∷◌, ◌++◌, map, take, replicate, Option, Some, None, refl, sym, ◌∙◌, ap, subst, arith}
 use Rattle.std.specs.Prelude.{min, option_map}
 use Rattle.std.proofs.lemmas.List.{length-append, length-map, length-take-le, map-append, append-nil, append_assoc}
 use Rattle.column_base.specs.Kinds.{Slot}

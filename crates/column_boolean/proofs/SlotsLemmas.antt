@@ -1,13 +1,12 @@
 -- Laws of slots of truth values, of sound lists, and of their parts.
-use Rattle.std.proofs.Common.{◌≡◌, ℕ, zero, suc, ◌+◌, ◌-◌, ◌<◌, ◌≤◌, Bool, true, false, not, List, [], ◌∷◌, ◌++◌, length, map, take, get_or, slice_get, count_by, Option, Some, None, ◌↔◌, refl, sym, ◌∙◌, ap, subst, arith}
+use Rattle.std.proofs.Common.{◌≡◌, ℕ, zero, suc, ◌+◌, ◌-◌, ◌<◌, ◌≤◌, Bool, true, false, not, List, [], ◌∷◌, ◌++◌, length, map, get_or, slice_get, count_by, Option, Some, None, ◌↔◌, refl, sym, ◌∙◌, ap, subst, arith}
 use Rattle.std.specs.Prelude.{slice_index_or, option_map, if◌then◌else◌}
-use Rattle.std.specs.List.{filter_map}
 use Rattle.std.proofs.lemmas.List.{length-map, get_or-map}
 use Rattle.column_base.specs.Kinds.{Slot}
 use Rattle.column_base.specs.Lists.{sublist}
-use Rattle.column_base.specs.Slots.{slot_at, values_of, row_of, rows_of}
+use Rattle.column_base.specs.Slots.{slot_at, rows_of}
 use Rattle.column_base.proofs.ListsLemmas.{length-sublist, sublist-sublist, map-sublist}
-use Rattle.column_storage.specs.Bits.{flags_of, sliced_flags, given_bits, optional_values, valid_values}
+use Rattle.column_storage.specs.Bits.{flags_of, sliced_flags, given_bits, optional_values}
 use Rattle.column_storage.specs.Slots.{flagged_slots}
 use Rattle.column_storage.specs.Validity.{AreFlagsOf, is_valid_at}
 use Rattle.column_storage.proofs.FlagsLemmas as flags

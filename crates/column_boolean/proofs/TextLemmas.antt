@@ -1,6 +1,6 @@
 -- Laws of texts that are written one after another, and of the text of rows.
-use Rattle.std.proofs.Common.{◌≡◌, ℕ, zero, suc, ◌+◌, ◌<◌, ◌≤◌, Bool, List, [], ◌∷◌, ◌++◌, length, take, slice_get, ◌==◌, Option, Some, None, refl, sym, ◌∙◌, ap, subst, arith}
-use Rattle.std.specs.Prelude.{codes, false, Result, Ok, Err, IsOk, OnOk, if◌then◌else◌}
+use Rattle.std.proofs.Common.{◌≡◌, ℕ, zero, suc, ◌+◌, ◌≤◌, Bool, List, [], ◌∷◌, ◌++◌, length, take, slice_get, ◌==◌, Option, Some, refl, sym, ◌∙◌, ap, subst, arith}
+use Rattle.std.specs.Prelude.{codes, false, Result, Ok, Err, IsOk, OnOk}
 use Rattle.std.specs.List.{FoldsTo, concat}
 use Rattle.std.specs.Fmt.{WritesInCalls, HasWritten, IsPlainFormatter, formatter_writer}
 use Rattle.std.specs.declared.fmt.Formatter.{Formatter}

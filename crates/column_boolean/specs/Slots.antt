@@ -6,7 +6,7 @@ use Rattle.column_base.specs.declared.datatypes.ArrowDataType.{ArrowDataType}
 use Rattle.column_base.specs.declared.datatypes.PhysicalType.{PhysicalType}
 use Rattle.column_base.specs.declared.datatypes.PhysicalType.TheVariants as physical
 use Rattle.column_base.specs.DataTypes.{physical_type}
-use Rattle.column_base.specs.Answers.{cause_if, ◌or_else◌}
+use Rattle.column_base.specs.Answers.{cause_if}
 use Rattle.column_base.specs.Kinds.{Slot}
 use Rattle.column_base.specs.Lists.{sublist}
 use Rattle.column_storage.specs.Bits.{sliced_flags}

@@ -1,7 +1,7 @@
-use Rattle.std.proofs.Common.{◌≡◌, sym}
+use Rattle.std.proofs.Common.{◌≡◌}
 use Rattle.std.specs.Prelude.{Option, Bool}
 use Rattle.std.proofs.lemmas.List.{map-id}
-use Rattle.column_base.proofs.PushesLemmas.{made_by_slice, answers_weaker}
+use Rattle.column_base.proofs.PushesLemmas.{made_by_slice}
 use Rattle.column_boolean.specs.Rows.{row_growth, no_slots}
 use Rattle.column_boolean.proofs.RowsLemmas.{none_refused}
 use Rattle.column_boolean.proofs.constructors.rows_of.Goals as goal

@@ -1,4 +1,3 @@
-use Rattle.std.proofs.Common.{◌+◌, take, sym}
 use Rattle.column_storage.specs.Bits.{given_bits}
 use Rattle.column_boolean.specs.Rows.{boolean_rows}
 use Rattle.column_boolean.proofs.TextLemmas.{wrote_both, text_more, text_all}
