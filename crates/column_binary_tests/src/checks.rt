@@ -131,6 +131,33 @@ pub fn rows_are(array: &BinaryArray<i32>) -> bool {
     gives(array.into_iter(), &ROWS) && ends_are(array.iter(), ROWS)
 }
 
+/// Whether the iterators of an array of four slots, of which the second is null, answer None for good, at their own types.
+pub fn iterators_end(array: &BinaryArray<i32>) -> bool {
+    rows_end(array) && values_end(array) && valid_values_end(array)
+}
+
+fn rows_end(array: &BinaryArray<i32>) -> bool {
+    let mut rows = array.iter();
+    rows.nth(3) == Some(Some(b"de".as_slice()))
+        && rows.next().is_none()
+        && rows.next_back().is_none()
+        && rows.next_back().is_none()
+        && rows.next().is_none()
+}
+
+fn values_end(array: &BinaryArray<i32>) -> bool {
+    let mut values = array.values_iter();
+    values.nth(3) == Some(b"de".as_slice())
+        && values.next_back().is_none()
+        && values.next().is_none()
+        && values.next_back().is_none()
+}
+
+fn valid_values_end(array: &BinaryArray<i32>) -> bool {
+    let mut values = array.non_null_values_iter();
+    values.nth(2) == Some(b"de".as_slice()) && values.next().is_none() && values.next().is_none()
+}
+
 /// Whether a `for` over the array comes to this row.
 pub fn has_row(array: &BinaryArray<i32>, wanted: Option<&[u8]>) -> bool {
     for row in array {

@@ -4,8 +4,8 @@ use crate::cases::{four, four_large};
 use crate::checks::{
     Call, bounds_are, empty_is, four_are_read, four_are_shared, four_cut, four_give,
     four_large_are_read, four_large_are_shared, four_large_cut, four_set, four_with, has_row,
-    is_told, large_rows_are, large_values_are, no_nulls_are, none_of_none_is, nulls_are,
-    raw_is_told, rows_are, slices_follow, taken_is, values_are,
+    is_told, iterators_end, large_rows_are, large_values_are, no_nulls_are, none_of_none_is,
+    nulls_are, raw_is_told, rows_are, slices_follow, taken_is, values_are,
 };
 use column_base::{ArrowDataType, Cause};
 use column_binary::{
@@ -135,7 +135,7 @@ fn arrays_without_bytes(rt: HostRuntime) -> Result<(), Fail> {
 fn four_slots_are_read(rt: HostRuntime) -> Result<(), Fail> {
     let array = four(rt.alloc())?;
     assert!(rt; four_are_read(&array));
-    assert!(rt; rows_are(&array) && values_are(&array));
+    assert!(rt; rows_are(&array) && values_are(&array) && iterators_end(&array));
     assert!(rt;
         has_row(&array, Some(b"de")) && has_row(&array, None) && !has_row(&array, Some(b"c"))
     );

@@ -2,6 +2,7 @@
 
 pub mod bits;
 pub mod buffers;
+pub mod ends;
 pub mod growing;
 pub mod iterators;
 pub mod validity;

@@ -1,4 +1,5 @@
 use crate::cases::{flags, four};
+use crate::checks::ends::iterators_end;
 use crate::checks::iterators::{
     all_places_are, all_values_are, bits_are, flagged_rows_are, places_are, rows_of_no_flags_are,
     rows_without_flags_are, values_are, values_are_passed_over,
@@ -27,5 +28,11 @@ fn rows_come_in_order(rt: HostRuntime) -> Result<(), Fail> {
     assert!(rt; rows_of_no_flags_are(&four(rt.alloc())?));
     assert!(rt; all_values_are(&four(rt.alloc())?));
     assert!(rt; flagged_rows_are(rt.alloc(), &four(rt.alloc())?)?);
+    Ok(())
+}
+
+#[test]
+fn none_comes_for_good(rt: HostRuntime) -> Result<(), Fail> {
+    assert!(rt; iterators_end(rt.alloc())?);
     Ok(())
 }
